@@ -1,0 +1,73 @@
+use Prim.Native.Nat.{_≤_, _<_, _+_, _-_}
+use mathlib.Core.Path.{_≡_}
+use lib.ListN.{length}
+use borrow.Author.Needs.{needs}
+use Rattle.replay.proofs.leaves.speeds.Statement.{statement}
+use Rattle.replay.proofs.leaves.speeds.Tie as tie
+use Rattle.replay.proofs.leaves.speeds.Reads as reads
+use Rattle.replay.proofs.leaves.speeds.Lts as lts
+use Rattle.replay.proofs.leaves.regions.Reads as regions-reads
+use Rattle.replay.proofs.out.put_byte.Reads as put-byte-reads
+use Rattle.replay.proofs.out.put_field.Reads as put-field-reads
+use Rattle.replay.proofs.out.put_text.Reads as put-text-reads
+
+abbrev Inv-loop : tie.InvT-loop
+Inv-loop lines₀ line next₀ channel₀ t5 lines next channel = (channel ≤ 256) × (length lines ≡ length lines₀)
+
+abbrev μ-loop : tie.MeasureT-loop
+μ-loop lines₀ line next₀ channel₀ t5 lines next channel = 256 - channel
+
+loop-holds : tie.Need-loop-holds Inv-loop μ-loop
+loop-holds c = search needs
+
+slice-aggregate-put-text : tie.Need-slice-aggregate-put-text Inv-loop μ-loop
+slice-aggregate-put-text c = search needs
+
+put-text-requires : tie.Need-put-text-requires Inv-loop μ-loop
+put-text-requires c κs = search needs
+
+put-field-requires : tie.Need-put-field-requires Inv-loop μ-loop
+put-field-requires c κs = search needs
+
+put-byte-requires : tie.Need-put-byte-requires Inv-loop μ-loop
+put-byte-requires c κs = search needs
+
+cast-regions : tie.Need-cast-regions Inv-loop μ-loop
+cast-regions c = search needs
+
+regions-requires : tie.Need-regions-requires Inv-loop μ-loop
+regions-requires c κs = search needs
+
+add-channel : tie.Need-add-channel Inv-loop μ-loop
+add-channel c = search needs
+
+loop-less : tie.Need-loop-less Inv-loop μ-loop
+loop-less c = search needs
+
+loop-again : tie.Need-loop-again Inv-loop μ-loop
+loop-again c = search needs
+
+same-length : tie.Need-same-length Inv-loop μ-loop
+same-length c = search needs
+
+returns : tie.Need-returns Inv-loop μ-loop
+returns c = search needs
+
+pub speeds-spec : {M : Type 1} → statement M
+speeds-spec =
+    tie.close
+    (tie.spec
+    Inv-loop
+    μ-loop
+    loop-holds
+    slice-aggregate-put-text
+    put-text-requires
+    put-field-requires
+    put-byte-requires
+    cast-regions
+    regions-requires
+    add-channel
+    loop-less
+    loop-again
+    same-length
+    returns)
