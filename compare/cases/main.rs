@@ -3,7 +3,10 @@
 //! Each set opens with the kind table and the version, taken from the built Rust: they are typed in nowhere.
 //! With no SET, it lists the sets.
 mod leaves;
+mod pti;
 mod random;
+mod traces;
+mod zniffer;
 
 use random::Random;
 use std::io::Write;
@@ -22,9 +25,19 @@ struct Set {
 }
 
 const SETS: &[Set] = &[
-    Set { name: "sample", text: "some of each set below, which rt ci runs", most: 20, write: sample },
+    Set { name: "sample", text: "some of each set below, which rt ci runs", most: 8, write: sample },
     Set { name: "times", text: "stored ticks at every limit of every range, and random ones", most: 60_000, write: leaves::times },
     Set { name: "speeds", text: "all 65,536 speeds at once, and pairs one by one", most: 20_000, write: leaves::speeds },
+    Set { name: "bodies", text: "PTI bodies, damaged and random ones, and beams at the ceiling of their count", most: 9_000, write: pti::bodies },
+    Set { name: "payloads", text: "PTI payloads, damaged and random ones", most: 7_000, write: pti::payloads },
+    Set { name: "payloads-small", text: "every PTI payload of up to 6 bytes over the bytes that matter", most: 1_000, write: pti::small },
+    Set { name: "streams", text: "Zniffer bytes, damaged and random ones, byte by byte and at once", most: 5_000, write: zniffer::streams },
+    Set { name: "streams-states", text: "every byte in every state of the Zniffer parser", most: 1_000, write: zniffer::everywhere },
+    Set { name: "streams-small", text: "every stream of up to 3 bytes over the bytes that matter, byte by byte", most: 1_000, write: zniffer::small },
+    Set { name: "streams-once", text: "the same at once", most: 1_000, write: zniffer::small_at_once },
+    Set { name: "traces", text: "records, searches and sequential reads on traces, and on damaged copies of them", most: 200, write: traces::traces },
+    Set { name: "traces-edges", text: "every limit of the record test, of openings and of the sequential reader", most: 1_000, write: traces::edges },
+    Set { name: "traces-large", text: "a record of the largest length, and searches over it", most: 1_000, write: traces::large },
 ];
 
 fn sample(cases: &mut Cases, r: &mut Random, most: usize) {
@@ -45,6 +58,25 @@ impl Cases {
             self.bytes.extend_from_slice(f);
         }
         self.count += 1;
+    }
+
+    /// A case whose fields are a length and bytes.
+    pub fn block(&mut self, letter: u8, bytes: &[u8]) {
+        self.add(letter, &[&(bytes.len() as u32).to_le_bytes(), bytes]);
+    }
+
+    /// Such a case for every string of up to so many of these bytes.
+    pub fn every(&mut self, letter: u8, of: &[u8], length: u32) {
+        for n in 0..=length {
+            for mut k in 0..of.len().pow(n) {
+                let mut bytes = Vec::new();
+                for _ in 0..n {
+                    bytes.push(of[k % of.len()]);
+                    k /= of.len();
+                }
+                self.block(letter, &bytes);
+            }
+        }
     }
 }
 
@@ -71,7 +103,10 @@ fn main() {
     let mut cases = Cases { bytes: Vec::new(), count: 0 };
     cases.add(b'K', &[&ZLF_VERSION.to_le_bytes(), &kinds()]);
     (set.write)(&mut cases, &mut Random::new(seed), set.most);
-    assert!(cases.bytes.len() <= ROOM, "the set {} has {} bytes, and replay reads {ROOM}", set.name, cases.bytes.len());
+    if cases.bytes.len() > ROOM {
+        eprintln!("cases: {} {seed} has {} bytes, and replay reads {ROOM}: take fewer", set.name, cases.bytes.len());
+        std::process::exit(2);
+    }
     std::io::stdout().write_all(&cases.bytes).unwrap();
     eprintln!("cases: {} {}: {} cases", set.name, seed, cases.count);
 }

@@ -25,7 +25,20 @@ impl Random {
         low + self.below(high - low + 1)
     }
 
+    /// True in so many of a hundred.
+    pub fn chance(&mut self, percent: u64) -> bool {
+        self.below(100) < percent
+    }
+
+    pub fn of<T: Copy>(&mut self, list: &[T]) -> T {
+        list[self.below(list.len() as u64) as usize]
+    }
+
     pub fn byte(&mut self) -> u8 {
         self.u64() as u8
+    }
+
+    pub fn bytes(&mut self, n: usize) -> Vec<u8> {
+        (0..n).map(|_| self.byte()).collect()
     }
 }

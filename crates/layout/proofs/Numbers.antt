@@ -3,8 +3,8 @@ use Prim.Native.Nat.{ℕ, zero, suc, _+_, _*_, _^_, _≤_, _<_}
 use lib.ListN.{length, getD, List·getD-eq-default}
 use lib.Pow.{pow-add}
 use mathlib.Core.List.{List}
-use mathlib.Core.Path.{_≡_, refl, sym, ap, _∙_}
-use native.Mathlib.Nat.{add-zero, add-suc, add-assoc, mul-assoc, mul-add, mul-comm, mul-zero, pow-succ', mul-le-mul-left}
+use mathlib.Core.Path.{_≡_, refl}
+use native.Mathlib.Nat.{add-zero, add-suc, add-assoc, mul-assoc, mul-add, mul-zero, pow-succ', mul-le-mul-left}
 use native.Mathlib.Omega.{arith}
 use Rattle.layout.specs.Layout.{leAt}
 

@@ -13,6 +13,17 @@ pub fn kinds(case: &[u8], lines: &mut [u8], line: usize) -> usize {
     next
 }
 
+// The kind table of a case K.
+pub fn table(case: &[u8]) -> [u8; 256] {
+    let mut kinds = [0u8; 256];
+    let mut i: usize = 0;
+    while i < 256 {
+        kinds[i] = layout::u8_at(case, 5 + i);
+        i += 1;
+    }
+    kinds
+}
+
 // The ticks without the two bits of the kind, and the milliseconds.
 pub fn time(case: &[u8], lines: &mut [u8], line: usize) -> usize {
     let raw = layout::u64_at(case, 1);

@@ -1,17 +1,29 @@
 // The port's side of the comparison with the Rust: reads cases on standard input, and answers each in the oracle's lines
 // (compare/FORMAT.md). Where a case is unknown or cut off it says so, and stops.
+mod bodies;
 mod leaves;
 mod out;
+mod records;
+mod sequence;
+mod stream;
 
 ghost use Prim.Native.Nat.{_≤_, _<_};
 ghost use lib.ListN.{length};
 ghost use mathlib.Core.Path.{_≡_};
 
-// Where the next case begins, where the lines go on, and how many cases were answered.
+// Where the next case begins, where the lines go on, how many cases were answered, and which part of the cases is the trace.
 pub struct Place {
     pub at: usize,
     pub line: usize,
     pub cases: u64,
+    pub from: usize,
+    pub to: usize,
+}
+
+// What the cases that come before one have set: the version that an opening expects, and the kind table.
+pub struct Given {
+    pub version: u32,
+    pub kinds: [u8; 256],
 }
 
 // The cases, of which there may be so many bytes.
@@ -21,18 +33,56 @@ fn room() -> [u8; 2097152]
     [0; 2097152]
 }
 
-// How long a case is, its letter and its fields; 0 for an unknown letter.
-fn case_length(letter: u8) -> usize {
+// How long a case's letter and its fields of fixed length are; 0 for an unknown letter.
+fn fixed_length(letter: u8) -> usize
+    ensures { λ r. ⌜ r ≤ 261 ⌝ }
+{
     match letter {
         b'K' => 261,
-        b'm' => 9,
+        b'n' => 17,
+        b'm' | b'r' | b't' | b'Q' => 9,
+        b'P' => 6,
         b'c' => 3,
-        b'C' => 1,
+        b'C' | b'G' | b'q' => 1,
+        b'b' | b'p' | b'z' | b'y' | b'T' | b'g' => 5,
         _ => 0,
     }
 }
 
-// What a case's line says after its letter.
+// How long a case is: where its fields are a length and bytes, the bytes are counted too.
+fn case_length(b: &[u8], at: usize) -> usize {
+    let fixed = fixed_length(layout::u8_at(b, at));
+    if fixed == 5 {
+        return 5 + layout::u32_at(b, std::num::wrapping_add_usize(at, 1)) as usize;
+    }
+    fixed
+}
+
+// What the line of a case on a trace says after its letter.
+fn asked(letter: u8, case: &[u8], trace: &[u8], g: Given, lines: &mut [u8], line: usize) -> usize {
+    let kinds = g.kinds;
+    if letter == b'r' {
+        return records::record(case, trace, &kinds, lines, line);
+    }
+    if letter == b'n' {
+        return records::search(case, trace, &kinds, lines, line);
+    }
+    if letter == b't' {
+        return records::time(case, trace, &kinds, lines, line);
+    }
+    if letter == b'q' {
+        return sequence::opened(g.version, trace, &kinds, lines, line);
+    }
+    if letter == b'Q' {
+        return sequence::from(case, trace, &kinds, lines, line);
+    }
+    if letter == b'T' {
+        return out::put_field(lines, line, trace.len() as u64);
+    }
+    out::put_field(lines, line, layout::u32_at(case, 1) as u64)
+}
+
+// What the line of any other case says after its letter.
 fn told(letter: u8, case: &[u8], lines: &mut [u8], line: usize) -> usize {
     if letter == b'K' {
         return leaves::kinds(case, lines, line);
@@ -43,27 +93,116 @@ fn told(letter: u8, case: &[u8], lines: &mut [u8], line: usize) -> usize {
     if letter == b'c' {
         return leaves::speed(case, lines, line);
     }
-    leaves::speeds(lines, line)
+    if letter == b'C' {
+        return leaves::speeds(lines, line);
+    }
+    if letter == b'G' {
+        return stream::regions(lines, line);
+    }
+    if letter == b'b' {
+        return bodies::body(case, lines, line);
+    }
+    if letter == b'p' {
+        return bodies::payload(case, lines, line);
+    }
+    if letter == b'z' {
+        return stream::one_by_one(case, lines, line);
+    }
+    if letter == b'y' {
+        return stream::at_once(case, lines, line);
+    }
+    sequence::sum(case, lines, line)
+}
+
+// Whether a case is about the trace.
+fn on_trace(letter: u8) -> bool {
+    match letter {
+        b'r' | b'n' | b't' | b'q' | b'Q' | b'T' | b'P' => true,
+        _ => false,
+    }
 }
 
 // The answer to one case.
-fn answer(case: &[u8], lines: &mut [u8], line: usize) -> usize {
+fn answer(case: &[u8], trace: &[u8], g: Given, lines: &mut [u8], line: usize) -> usize {
     let letter = layout::u8_at(case, 0);
     let next = out::put_byte(lines, line, letter);
-    let end = told(letter, case, lines, next);
+    let end = chosen(letter, case, trace, g, lines, next);
     out::put_byte(lines, end, b'\n')
 }
 
+fn chosen(letter: u8, case: &[u8], trace: &[u8], g: Given, lines: &mut [u8], line: usize) -> usize {
+    if on_trace(letter) {
+        return asked(letter, case, trace, g, lines, line);
+    }
+    told(letter, case, lines, line)
+}
+
+// The part of the cases that is a trace.
+struct Part {
+    from: usize,
+    to: usize,
+}
+
+// A case T is the trace from now on.
+fn trace_part(letter: u8, p: Place, at: usize, end: usize) -> Part
+    requires { ⌜ (p .from ≤ p .to) × (p .to ≤ end) × (at ≤ end) ⌝ }
+    ensures { λ r. ⌜ (r .from ≤ r .to) × (r .to ≤ end) ⌝ }
+{
+    if letter == b'T' {
+        if 5 <= end - at {
+            return Part {
+                from: at + 5,
+                to: end,
+            };
+        }
+    }
+    Part {
+        from: p.from,
+        to: p.to,
+    }
+}
+
+// A case P changes a byte of the trace.
+fn changed(b: &mut [u8], at: usize, from: usize, to: usize)
+    requires { ⌜ (from ≤ to) × (to ≤ length (now b)) ⌝ }
+{
+    let next = std::num::wrapping_add_usize(at, 1);
+    let k = layout::u32_at(b, next) as usize;
+    let v = layout::u8_at(b, std::num::wrapping_add_usize(at, 5));
+    if layout::u8_at(b, at) == b'P' {
+        if k < to - from {
+            b[from + k] = v;
+        }
+    }
+}
+
+// A case K sets the version and the kind table.
+fn set_by(case: &[u8], g: Given) -> Given {
+    if layout::u8_at(case, 0) == b'K' {
+        return Given {
+            version: layout::u32_at(case, 1),
+            kinds: leaves::table(case),
+        };
+    }
+    g
+}
+
 // Answers the cases one after the other, up to the end or to one that is unknown or cut off.
-fn answers(b: &[u8], lines: &mut [u8]) -> Place {
+fn answers(b: &mut [u8], lines: &mut [u8]) -> Place {
+    let mut g = Given {
+        version: 0,
+        kinds: [0; 256],
+    };
     let mut p = Place {
         at: 0,
         line: 0,
         cases: 0,
+        from: 0,
+        to: 0,
     };
     while p.at < b.len() {
         let at = p.at;
-        let n = case_length(b[at]);
+        let n = case_length(b, at);
         if n == 0 {
             return p;
         }
@@ -71,11 +210,18 @@ fn answers(b: &[u8], lines: &mut [u8]) -> Place {
             return p;
         }
         let end = at + n;
-        let line = answer(&b[at..end], lines, p.line);
+        let part = trace_part(b[at], p, at, end);
+        let from = part.from;
+        let to = part.to;
+        changed(b, at, from, to);
+        g = set_by(&b[at..end], g);
+        let line = answer(&b[at..end], &b[from..to], g, lines, p.line);
         p = Place {
             at: end,
             line,
             cases: std::num::wrapping_add_u64(p.cases, 1),
+            from,
+            to,
         };
     }
     p
@@ -91,7 +237,7 @@ fn stop(at: usize, end: usize, lines: &mut [u8], line: usize) -> usize {
     out::put_byte(lines, place, b'\n')
 }
 
-fn run(b: &[u8], lines: &mut [u8]) {
+fn run(b: &mut [u8], lines: &mut [u8]) {
     let p = answers(b, lines);
     let stopped = stop(p.at, b.len(), lines, p.line);
     let text = out::put_text(lines, stopped, b"end");
@@ -104,5 +250,5 @@ fn main() {
     let mut cases = room();
     let n = io::read_full(0, &mut cases);
     let mut lines = io::large_buffer();
-    run(&cases[..n], &mut lines);
+    run(&mut cases[..n], &mut lines);
 }

@@ -6,19 +6,12 @@ use mathlib.Core.Bool.{Bool, true, false, _&&_, _||_}
 use mathlib.Core.List.{List, [], _∷_}
 use mathlib.Core.Path.{_≡_, refl, sym}
 use borrow.Author.Tests.{eqb-true}
+use Rattle.choice.proofs.Choice.{left-true, right-true}
 use Rattle.speed.specs.Speed.{among}
 
 abbrev pub within : List ℕ → List ℕ → Bool
 within [] ys = true
 within (x ∷ xs) ys = among x ys && within xs ys
-
-first : (a b : Bool) → (a && b) ≡ true → a ≡ true
-first true b e = refl
-first false b e = e
-
-rest : (a b : Bool) → (a && b) ≡ true → b ≡ true
-rest true b e = e
-rest false b e = let z : false ≡ true = e in cc
 
 alike : (a b : Bool) → (a ≡ true → b ≡ true) → (b ≡ true → a ≡ true) → a ≡ b
 alike true b f g = sym (f refl)
@@ -33,7 +26,7 @@ module _ (ys : List ℕ) (k : ℕ) where
   carried : (xs : List ℕ) → within xs ys ≡ true → among k xs ≡ true → among k ys ≡ true
   unfolding among
   carried [] w h = let z : false ≡ true = h in cc
-  carried (x ∷ xs) w h = either x (eqb x k) (among k xs) refl (first (among x ys) (within xs ys) w) (carried xs (rest (among x ys) (within xs ys) w)) h
+  carried (x ∷ xs) w h = either x (eqb x k) (among k xs) refl (left-true (among x ys) (within xs ys) w) (carried xs (right-true (among x ys) (within xs ys) w)) h
 
 pub same-members : (xs ys : List ℕ) → within xs ys ≡ true → within ys xs ≡ true → (k : ℕ) → among k xs ≡ among k ys
 same-members xs ys v w k = alike (among k xs) (among k ys) (carried ys k xs v) (carried xs k ys w)

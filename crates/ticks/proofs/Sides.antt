@@ -1,7 +1,7 @@
 -- The milliseconds on either side of the Unix epoch, as an i64 holds them. Assumes nothing.
 use Prim.Native.Nat.{ℕ, zero, suc, _-_, _/_, _<_, _≤_, _^_}
 use lib.IntN.{pos, negℤ, _-ℤ_, +ℤ-idl}
-use mathlib.Core.Path.{_≡_, _∙_, ap}
+use mathlib.Core.Path.{_≡_, _∙_}
 use mir.Syntax.{w64}
 use mir.Val.{toZ, ofZ, SFits}
 use mir.ValLaws.{toZ-pos, toZ-ofZ}

@@ -1,15 +1,10 @@
+-- `replay::leaves::kinds` meets its contract: it is safe and ends. Assumes nothing.
 use Prim.Native.Nat.{_≤_, _<_, _+_, _-_}
 use mathlib.Core.Path.{_≡_}
 use lib.ListN.{length}
 use borrow.Author.Needs.{needs}
 use Rattle.replay.proofs.leaves.kinds.Statement.{statement}
 use Rattle.replay.proofs.leaves.kinds.Tie as tie
-use Rattle.replay.proofs.leaves.kinds.Reads as reads
-use Rattle.replay.proofs.leaves.kinds.Lts as lts
-use Rattle.layout.proofs.u32_at.Reads as u32-at-reads
-use Rattle.layout.proofs.u8_at.Reads as u8-at-reads
-use Rattle.replay.proofs.out.put_byte.Reads as put-byte-reads
-use Rattle.replay.proofs.out.put_field.Reads as put-field-reads
 
 abbrev Inv-loop : tie.InvT-loop
 Inv-loop case lines₀ line next₀ i₀ lines next i = (i ≤ 256) × (length lines ≡ length lines₀)

@@ -1,13 +1,10 @@
+-- `replay::leaves::regions` meets its contract: it is safe and ends. Assumes nothing.
 use Prim.Native.Nat.{_≤_, _<_, _+_, _-_}
 use mathlib.Core.Path.{_≡_}
 use lib.ListN.{length}
 use borrow.Author.Needs.{needs}
 use Rattle.replay.proofs.leaves.regions.Statement.{statement}
 use Rattle.replay.proofs.leaves.regions.Tie as tie
-use Rattle.replay.proofs.leaves.regions.Reads as reads
-use Rattle.replay.proofs.leaves.regions.Lts as lts
-use Rattle.replay.proofs.out.put_byte.Reads as put-byte-reads
-use Rattle.speed.proofs.speed_for.Reads as speed-for-reads
 
 abbrev Inv-loop : tie.InvT-loop
 Inv-loop channel lines₀ line next₀ region₀ lines next region = (region ≤ 256) × (length lines ≡ length lines₀)

@@ -1,15 +1,10 @@
+-- `replay::leaves::speeds` meets its contract: it is safe and ends. Assumes nothing.
 use Prim.Native.Nat.{_≤_, _<_, _+_, _-_}
 use mathlib.Core.Path.{_≡_}
 use lib.ListN.{length}
 use borrow.Author.Needs.{needs}
 use Rattle.replay.proofs.leaves.speeds.Statement.{statement}
 use Rattle.replay.proofs.leaves.speeds.Tie as tie
-use Rattle.replay.proofs.leaves.speeds.Reads as reads
-use Rattle.replay.proofs.leaves.speeds.Lts as lts
-use Rattle.replay.proofs.leaves.regions.Reads as regions-reads
-use Rattle.replay.proofs.out.put_byte.Reads as put-byte-reads
-use Rattle.replay.proofs.out.put_field.Reads as put-field-reads
-use Rattle.replay.proofs.out.put_text.Reads as put-text-reads
 
 abbrev Inv-loop : tie.InvT-loop
 Inv-loop lines₀ line next₀ channel₀ t5 lines next channel = (channel ≤ 256) × (length lines ≡ length lines₀)

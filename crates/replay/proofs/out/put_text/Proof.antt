@@ -1,12 +1,10 @@
+-- `replay::out::put_text` meets its contract: it is safe and ends. Assumes nothing.
 use Prim.Native.Nat.{_≤_, _<_, _+_, _-_}
 use mathlib.Core.Path.{_≡_}
 use lib.ListN.{length}
 use borrow.Author.Needs.{needs}
 use Rattle.replay.proofs.out.put_text.Statement.{statement}
 use Rattle.replay.proofs.out.put_text.Tie as tie
-use Rattle.replay.proofs.out.put_text.Reads as reads
-use Rattle.replay.proofs.out.put_text.Lts as lts
-use Rattle.replay.proofs.out.put_byte.Reads as put-byte-reads
 
 abbrev Inv-loop : tie.InvT-loop
 Inv-loop out₀ at text next₀ i₀ out next i = (i ≤ length text) × (length out ≡ length out₀)

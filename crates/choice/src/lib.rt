@@ -1,0 +1,1 @@
+// Laws on tests and choices, which the proofs of every other crate cite. It has no code.

@@ -1,0 +1,3 @@
+pub mod Bracket
+pub mod Beam
+pub mod Frame

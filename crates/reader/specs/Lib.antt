@@ -1,0 +1,5 @@
+pub mod Sum
+pub mod Opening
+pub mod Next
+pub mod Whole
+pub mod Exactly

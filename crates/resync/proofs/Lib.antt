@@ -1,0 +1,10 @@
+pub mod Ways
+pub mod Chain
+pub mod Valid
+pub mod Answers
+pub mod High
+pub mod First
+pub mod Searched
+pub mod Found
+pub mod Times
+pub mod Only
