@@ -5,6 +5,7 @@
 mod leaves;
 mod pti;
 mod random;
+mod seeks;
 mod traces;
 mod zniffer;
 
@@ -14,7 +15,7 @@ use zniff_core::zlf::ApiType;
 use zniff_core::zlf::types::ZLF_VERSION;
 
 /// What crates/replay reads at most.
-const ROOM: usize = 2_097_152;
+const ROOM: usize = 4_194_304;
 
 /// A set's name, what it has, how many random cases of each sort it takes, and the function that writes them.
 struct Set {
@@ -38,6 +39,10 @@ const SETS: &[Set] = &[
     Set { name: "traces", text: "records, searches and sequential reads on traces, and on damaged copies of them", most: 200, write: traces::traces },
     Set { name: "traces-edges", text: "every limit of the record test, of openings and of the sequential reader", most: 1_000, write: traces::edges },
     Set { name: "traces-large", text: "a record of the largest length, and searches over it", most: 1_000, write: traces::large },
+    Set { name: "seeks", text: "spans, seeks and single steps on traces of a few records", most: 2_000, write: seeks::small },
+    Set { name: "seeks-halved", text: "the same on traces of 300 to 700 KB, on which bounds cross", most: 600, write: seeks::halved },
+    Set { name: "seeks-gaps", text: "the same with gaps larger than the window", most: 300, write: seeks::gaps },
+    Set { name: "seeks-longest", text: "the same with payloads of the largest length", most: 300, write: seeks::longest },
 ];
 
 fn sample(cases: &mut Cases, r: &mut Random, most: usize) {

@@ -24,7 +24,7 @@ fn header(r: &mut Random, version: u32, right: bool) -> Vec<u8> {
 }
 
 /// A record as it is stored.
-fn record(ticks: u64, properties: u8, length: i32, payload: &[u8], end: u8) -> Vec<u8> {
+pub fn record(ticks: u64, properties: u8, length: i32, payload: &[u8], end: u8) -> Vec<u8> {
     let mut out = ticks.to_le_bytes().to_vec();
     out.push(properties);
     out.extend(length.to_le_bytes());
@@ -34,7 +34,7 @@ fn record(ticks: u64, properties: u8, length: i32, payload: &[u8], end: u8) -> V
 }
 
 /// The end bytes of a kind.
-fn ends(kind: u8) -> Vec<u8> {
+pub fn ends(kind: u8) -> Vec<u8> {
     (0..=255u8).filter(|e| kinds()[*e as usize] == kind).collect()
 }
 
@@ -115,7 +115,7 @@ fn window(r: &mut Random, from: u64) -> u64 {
     }
 }
 
-fn ask(cases: &mut Cases, letter: u8, numbers: &[u64]) {
+pub fn ask(cases: &mut Cases, letter: u8, numbers: &[u64]) {
     let bytes: Vec<u8> = numbers.iter().flat_map(|n| n.to_le_bytes()).collect();
     cases.add(letter, &[&bytes]);
 }
@@ -174,9 +174,14 @@ fn all_around(cases: &mut Cases, t: &Trace) {
     ask(cases, b'q', &[]);
 }
 
-/// A trace of these records, with a right header.
+/// A header that opens.
+pub fn good_header() -> Vec<u8> {
+    header(&mut Random::new(0), ZLF_VERSION, true)
+}
+
+/// A trace of these records, with such a header.
 fn of(records: &[Vec<u8>]) -> Trace {
-    let mut t = Trace { bytes: header(&mut Random::new(0), ZLF_VERSION, true), starts: Vec::new() };
+    let mut t = Trace { bytes: good_header(), starts: Vec::new() };
     for x in records {
         t.starts.push(t.bytes.len());
         t.bytes.extend(x);

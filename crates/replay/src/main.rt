@@ -4,9 +4,11 @@ mod bodies;
 mod leaves;
 mod out;
 mod records;
+mod seeks;
 mod sequence;
 mod stream;
 
+use libc::STDIN_FILENO;
 ghost use Prim.Native.Nat.{_≤_, _<_};
 ghost use lib.ListN.{length};
 ghost use mathlib.Core.Path.{_≡_};
@@ -27,10 +29,10 @@ pub struct Given {
 }
 
 // The cases, of which there may be so many bytes.
-fn room() -> [u8; 2097152]
-    ensures { λ r. ⌜ 2097152 ≡ length r ⌝ }
+fn room() -> [u8; 4194304]
+    ensures { λ r. ⌜ 4194304 ≡ length r ⌝ }
 {
-    [0; 2097152]
+    [0; 4194304]
 }
 
 // How long a case's letter and its fields of fixed length are; 0 for an unknown letter.
@@ -39,11 +41,12 @@ fn fixed_length(letter: u8) -> usize
 {
     match letter {
         b'K' => 261,
+        b'j' => 26,
         b'n' => 17,
-        b'm' | b'r' | b't' | b'Q' => 9,
+        b'm' | b'r' | b't' | b'Q' | b'k' | b'h' => 9,
         b'P' => 6,
         b'c' => 3,
-        b'C' | b'G' | b'q' => 1,
+        b'C' | b'G' | b'q' | b's' => 1,
         b'b' | b'p' | b'z' | b'y' | b'T' | b'g' => 5,
         _ => 0,
     }
@@ -75,6 +78,18 @@ fn asked(letter: u8, case: &[u8], trace: &[u8], g: Given, lines: &mut [u8], line
     }
     if letter == b'Q' {
         return sequence::from(case, trace, &kinds, lines, line);
+    }
+    if letter == b's' {
+        return seeks::span(trace, &kinds, lines, line);
+    }
+    if letter == b'k' {
+        return seeks::whole(case, trace, &kinds, lines, line);
+    }
+    if letter == b'h' {
+        return seeks::steps(case, trace, &kinds, lines, line);
+    }
+    if letter == b'j' {
+        return seeks::step(case, trace, &kinds, lines, line);
     }
     if letter == b'T' {
         return out::put_field(lines, line, trace.len() as u64);
@@ -117,7 +132,7 @@ fn told(letter: u8, case: &[u8], lines: &mut [u8], line: usize) -> usize {
 // Whether a case is about the trace.
 fn on_trace(letter: u8) -> bool {
     match letter {
-        b'r' | b'n' | b't' | b'q' | b'Q' | b'T' | b'P' => true,
+        b'r' | b'n' | b't' | b'q' | b'Q' | b's' | b'k' | b'h' | b'j' | b'T' | b'P' => true,
         _ => false,
     }
 }
@@ -248,7 +263,7 @@ fn run(b: &mut [u8], lines: &mut [u8]) {
 
 fn main() {
     let mut cases = room();
-    let n = io::read_full(0, &mut cases);
+    let n = io::read_full(STDIN_FILENO, &mut cases);
     let mut lines = io::large_buffer();
     run(&mut cases[..n], &mut lines);
 }

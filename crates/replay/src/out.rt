@@ -111,6 +111,14 @@ pub fn wide(x: u8) -> u64 {
     x as u64
 }
 
+// Eight stored bytes as a signed number.
+pub fn signed(x: u64) -> i64 {
+    if x < 0x8000_0000_0000_0000 {
+        return x as i64;
+    }
+    !((0xFFFF_FFFF_FFFF_FFFF - x) as i64)
+}
+
 pub fn from_i8(x: i8) -> i64 {
     x as i64
 }

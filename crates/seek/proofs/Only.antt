@@ -1,0 +1,113 @@
+-- Each answer is told in numbers of its own: two answers that tell the same are the same, so a promise about what is told determines the answer. Assumes nothing.
+use Prim.Native.Nat.{ℕ}
+use lib.Dec.{eqb}
+use lib.IntN.{ℤ, pos, negsuc}
+use mathlib.Core.Bool.{cond}
+use mathlib.Core.Path.{_≡_, refl, sym, ap, _∙_}
+use Rattle.seek.specs.Met.{FirstTold, toldFirst}
+use Rattle.seek.specs.Span.{SpanTold, toldSpan}
+use Rattle.seek.specs.Seek.{SeekTold, toldSeek}
+use Rattle.seek.specs.Step.{StateTold, toldState, StartTold, toldStart, StepTold, toldStep}
+use Rattle.seek.specs.declared.FirstRecord.{FirstRecord}
+use Rattle.seek.specs.declared.FirstRecord.the-variants as First
+use Rattle.seek.specs.declared.Span.{Span}
+use Rattle.seek.specs.declared.Span.the-variants as Span
+use Rattle.seek.specs.declared.Found.{Found}
+use Rattle.seek.specs.declared.Found.the-variants as Found
+use Rattle.seek.specs.declared.SeekTime.{SeekTime}
+use Rattle.seek.specs.declared.SeekTime.the-variants as Seek
+use Rattle.seek.specs.declared.SeekState.{SeekState}
+use Rattle.seek.specs.declared.SeekState.the-variants.{Searching, Scanning}
+use Rattle.seek.specs.declared.SeekStart.{SeekStart}
+use Rattle.seek.specs.declared.SeekStart.the-variants as Start
+use Rattle.seek.specs.declared.SeekStep.{SeekStep}
+use Rattle.seek.specs.declared.SeekStep.the-variants as Step
+
+-- told and taken back
+module _ {A B : Type 0} (told : A → B) (back : B → A) (same : (a : A) → back (told a) ≡ a) where
+  only : (a b : A) → told a ≡ told b → a ≡ b
+  only a b e = sym (same a) ∙ ap back e ∙ same b
+
+number : ℤ → ℕ
+number (pos n) = n
+number (negsuc n) = 0
+
+backFirst : FirstTold → FirstRecord
+backFirst t = cond (eqb (t .refusal) 0) (cond (t .isFound) (First.At (t .offset)) First.Nothing) First.TraceTooLong
+
+sameFirst : (r : FirstRecord) → backFirst (toldFirst r) ≡ r
+unfolding backFirst
+sameFirst (First.At o) = refl
+sameFirst First.Nothing = refl
+sameFirst First.TraceTooLong = refl
+
+pub only-first : (a b : FirstRecord) → toldFirst a ≡ toldFirst b → a ≡ b
+only-first = only toldFirst backFirst sameFirst
+
+backSpan : SpanTold → Span
+backSpan t =
+    cond (eqb (t .refusal) 0) (cond (t .isFound) (Span.Times (number (t .first)) (number (t .last))) Span.Nothing) Span.TraceTooLong
+
+sameSpan : (r : Span) → backSpan (toldSpan r) ≡ r
+unfolding backSpan number
+sameSpan (Span.Times a b) = refl
+sameSpan Span.Nothing = refl
+sameSpan Span.TraceTooLong = refl
+
+pub only-span : (a b : Span) → toldSpan a ≡ toldSpan b → a ≡ b
+only-span = only toldSpan backSpan sameSpan
+
+backSeek : SeekTold → SeekTime
+backSeek t =
+    cond (eqb (t .refusal) 0) (cond (t .isFound) (Seek.Found (t .offset) (t .halvings)) (Seek.Nothing (t .halvings))) Seek.TraceTooLong
+
+sameSeek : (r : SeekTime) → backSeek (toldSeek r) ≡ r
+unfolding backSeek
+sameSeek (Seek.Found o h) = refl
+sameSeek (Seek.Nothing h) = refl
+sameSeek Seek.TraceTooLong = refl
+
+pub only-seek : (a b : SeekTime) → toldSeek a ≡ toldSeek b → a ≡ b
+only-seek = only toldSeek backSeek sameSeek
+
+backState : StateTold → SeekState
+backState t = cond (t .searching) (Searching (t .lo) (t .hi)) (Scanning (t .at))
+
+sameState : (r : SeekState) → backState (toldState r) ≡ r
+unfolding backState
+sameState (Searching lo hi) = refl
+sameState (Scanning at) = refl
+
+pub only-state : (a b : SeekState) → toldState a ≡ toldState b → a ≡ b
+only-state = only toldState backState sameState
+
+backStart : StartTold → SeekStart
+backStart t = cond (eqb (t .refusal) 0) (Start.From (backState (t .state))) Start.TraceTooLong
+
+sameStart : (r : SeekStart) → backStart (toldStart r) ≡ r
+unfolding backStart
+sameStart (Start.From st) = ap (λ (x : SeekState). Start.From x) (sameState st)
+sameStart Start.TraceTooLong = refl
+
+pub only-start : (a b : SeekStart) → toldStart a ≡ toldStart b → a ≡ b
+only-start = only toldStart backStart sameStart
+
+backStep : StepTold → SeekStep
+backStep t =
+    cond (eqb (t .refusal) 1) Step.TraceTooLong
+    (cond (eqb (t .refusal) 5) Step.WindowTooLong
+    (cond (eqb (t .answer) 1) (Step.More (backState (t .state)))
+    (cond (eqb (t .answer) 2) (Step.Scan (backState (t .state)))
+    (Step.Done (cond (t .isFound) (Found.At (t .offset)) Found.Nothing)))))
+
+sameStep : (r : SeekStep) → backStep (toldStep r) ≡ r
+unfolding backStep
+sameStep (Step.More st) = ap (λ (x : SeekState). Step.More x) (sameState st)
+sameStep (Step.Scan st) = ap (λ (x : SeekState). Step.Scan x) (sameState st)
+sameStep (Step.Done (Found.At o)) = refl
+sameStep (Step.Done Found.Nothing) = refl
+sameStep Step.TraceTooLong = refl
+sameStep Step.WindowTooLong = refl
+
+pub only-step : (a b : SeekStep) → toldStep a ≡ toldStep b → a ≡ b
+only-step = only toldStep backStep sameStep

@@ -1,0 +1,4 @@
+pub mod Met
+pub mod Seek
+pub mod Span
+pub mod Step
