@@ -42,6 +42,7 @@ const SETS: &[Set] = &[
     Set { name: "seeks", text: "spans, seeks and single steps on traces of a few records", most: 2_000, write: seeks::small },
     Set { name: "seeks-halved", text: "the same on traces of 300 to 700 KB, on which bounds cross", most: 600, write: seeks::halved },
     Set { name: "seeks-gaps", text: "the same with gaps larger than the window", most: 300, write: seeks::gaps },
+    Set { name: "seeks-large", text: "the same on a trace of nearly 4 MB with all of that", most: 300, write: seeks::large },
     Set { name: "seeks-longest", text: "the same with payloads of the largest length", most: 300, write: seeks::longest },
 ];
 

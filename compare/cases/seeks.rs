@@ -156,3 +156,26 @@ pub fn longest(cases: &mut Cases, r: &mut Random, most: usize) {
         u.questions(cases, r, 20);
     }
 }
+
+/// One trace of nearly 4 MB: long records, a payload of the largest length, and a gap larger than the window, in some order.
+pub fn large(cases: &mut Cases, r: &mut Random, most: usize) {
+    if most < 100 {
+        return;
+    }
+    let mut u = Under::new(r);
+    some(&mut u, r);
+    let gap_first = r.chance(50);
+    for k in 0..2 {
+        if (k == 0) == gap_first {
+            u.gap(1_048_576 + r.below(60_000) as usize);
+        } else {
+            u.record(r, 1_048_576);
+        }
+        some(&mut u, r);
+    }
+    while u.trace.bytes.len() < 3_700_000 {
+        let length = r.between(1, 200_000) as usize;
+        u.record(r, length);
+    }
+    u.questions(cases, r, 20);
+}
