@@ -3,6 +3,7 @@
 //! Each set opens with the kind table and the version, taken from the built Rust: they are typed in nowhere.
 //! With no SET, it lists the sets.
 mod leaves;
+mod pages;
 mod pti;
 mod random;
 mod seeks;
@@ -39,6 +40,9 @@ const SETS: &[Set] = &[
     Set { name: "traces", text: "records, searches and sequential reads on traces, and on damaged copies of them", most: 200, write: traces::traces },
     Set { name: "traces-edges", text: "every limit of the record test, of openings and of the sequential reader", most: 1_000, write: traces::edges },
     Set { name: "traces-large", text: "a record of the largest length, and searches over it", most: 1_000, write: traces::large },
+    Set { name: "pages", text: "pages, chains of pages, seam checks and openings on traces, and on damaged copies of them", most: 250, write: pages::pages },
+    Set { name: "pages-example", text: "the same from every offset of 01's example", most: 1_000, write: pages::example },
+    Set { name: "pages-full", text: "pages of 599, 600, 601 and no rows, for a table of 600", most: 1_000, write: pages::full },
     Set { name: "seeks", text: "spans, seeks and single steps on traces of a few records", most: 2_000, write: seeks::small },
     Set { name: "seeks-halved", text: "the same on traces of 300 to 700 KB, on which bounds cross", most: 600, write: seeks::halved },
     Set { name: "seeks-gaps", text: "the same with gaps larger than the window", most: 300, write: seeks::gaps },

@@ -88,7 +88,7 @@ pub fn trace(r: &mut Random, records: u64) -> Trace {
 }
 
 /// A place that is worth asking about: around the header's end, a record's start or end, the trace's length, the ends of u64.
-fn place(r: &mut Random, t: &Trace) -> u64 {
+pub fn place(r: &mut Random, t: &Trace) -> u64 {
     let n = t.bytes.len() as u64;
     let near = match r.below(10) {
         0 => r.of(&[0, 1, 1 << 63, u64::MAX, u64::MAX - 2048, 2046]),
@@ -138,22 +138,27 @@ fn questions(cases: &mut Cases, r: &mut Random, t: &Trace, times: usize) {
     }
 }
 
-/// Traces of no to 60 records and damaged copies of them, with questions to each.
-pub fn traces(cases: &mut Cases, r: &mut Random, most: usize) {
+/// Questions to traces of no to 20 records, and to three damaged copies of each, which are asked fewer.
+pub fn with_damage(cases: &mut Cases, r: &mut Random, most: usize, times: [usize; 2], questions: fn(&mut Cases, &mut Random, &Trace, usize)) {
     for _ in 0..most {
         let records = r.of(&[0, 1, 2, 3, 4, 4, 10, 20]);
         let t = trace(r, records);
         cases.block(b'T', &t.bytes);
-        questions(cases, r, &t, 30);
+        questions(cases, r, &t, times[0]);
         for _ in 0..3 {
             if t.bytes.len() > 2048 {
                 let at = r.between(2048, t.bytes.len() as u64 - 1) as u32;
                 let b = if r.chance(60) { r.of(&[0x00, 0x5B, 0x5D, 0xFF, 0xFE]) } else { r.byte() };
                 cases.add(b'P', &[&at.to_le_bytes(), &[b]]);
-                questions(cases, r, &t, 12);
+                questions(cases, r, &t, times[1]);
             }
         }
     }
+}
+
+/// Records, searches and sequential reads.
+pub fn traces(cases: &mut Cases, r: &mut Random, most: usize) {
+    with_damage(cases, r, most, [30, 12], questions);
 }
 
 /// Every offset near the records, each asked about in every way.

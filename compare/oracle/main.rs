@@ -24,6 +24,8 @@ use zniff_core::zniffer_parser::{Parser, ParserResult};
 
 const HEADER: u64 = 2048;
 const SEEK_SPAN: u64 = 65_536;
+/// The rows of the table that the port lends. The Rust's pages grow; 01's refusal 7 stands in where one outgrows it.
+const TABLE: usize = 600;
 
 static PANIC: Mutex<String> = Mutex::new(String::new());
 static OVERFLOWED: AtomicU64 = AtomicU64::new(0);
@@ -187,6 +189,9 @@ fn pages(trace: &[u8], mut at: u64, count: u64, chain: bool) -> String {
     let mut c = cursor(trace);
     loop {
         let w = c.frames_at(at, count as usize).unwrap();
+        if w.frames.len() > TABLE {
+            return out + "\n R 7";
+        }
         for (t, origin) in w.frames.iter().zip(&w.origins) {
             out += &format!("\n  {}", lines::row(t, *origin));
         }

@@ -1,7 +1,8 @@
 -- An answer is determined by what is told of it: from the paper's numbers the answer can be made again. Assumes nothing.
 use lib.Dec.{eqb}
 use mathlib.Core.Bool.{cond}
-use mathlib.Core.Path.{_≡_, refl, sym, ap, _∙_}
+use mathlib.Core.Path.{_≡_, refl}
+use Rattle.choice.proofs.Only.{only}
 use Rattle.reader.specs.declared.Opening.{Opening}
 use Rattle.reader.specs.declared.Opening.the-variants as O
 use Rattle.reader.specs.declared.Next.{Next}
@@ -25,8 +26,8 @@ opening-again O.TraceTooShort = refl
 opening-again O.InvalidHeaderChecksum = refl
 opening-again (O.InvalidZlfVersion v) = refl
 
-pub one-opening : (a b : Opening) → toldOpening a ≡ toldOpening b → a ≡ b
-one-opening a b e = sym (opening-again a) ∙ ap opening-of e ∙ opening-again b
+pub only-opening : (a b : Opening) → toldOpening a ≡ toldOpening b → a ≡ b
+only-opening = only toldOpening opening-of opening-again
 
 next-of : NextTold → Next
 next-of t =
@@ -57,5 +58,5 @@ next-again (N.InvalidPayloadLength z r) = refl
 next-again (N.EofInHead r) = refl
 next-again (N.EofInPayload r) = refl
 
-pub one-next : (a b : Next) → toldNext a ≡ toldNext b → a ≡ b
-one-next a b e = sym (next-again a) ∙ ap next-of e ∙ next-again b
+pub only-next : (a b : Next) → toldNext a ≡ toldNext b → a ≡ b
+only-next = only toldNext next-of next-again

@@ -17,14 +17,10 @@ fn frame(f: PtiFrame, body: &[u8], lines: &mut [u8], line: usize) -> usize {
 // Its direction, region, channel and speed.
 fn placed(f: PtiFrame, lines: &mut [u8], line: usize) -> usize {
     let space = out::put_byte(lines, line, b' ');
-    let side = out::put_byte(lines, space, letter(f.direction));
+    let side = out::put_byte(lines, space, out::side(f.direction));
     let region = out::put_field(lines, side, out::wide(f.region));
     let channel = out::put_field(lines, region, out::wide(f.channel));
     out::put_field(lines, channel, out::wide(f.speed))
-}
-
-fn letter(direction: u8) -> u8 {
-    if direction == 0 { b'R' } else { b'T' }
 }
 
 fn parsed(body: &[u8], lines: &mut [u8], line: usize) -> usize {

@@ -3,6 +3,7 @@
 mod bodies;
 mod leaves;
 mod out;
+mod pages;
 mod records;
 mod seeks;
 mod sequence;
@@ -42,11 +43,11 @@ fn fixed_length(letter: u8) -> usize
     match letter {
         b'K' => 261,
         b'j' => 26,
-        b'n' => 17,
-        b'm' | b'r' | b't' | b'Q' | b'k' | b'h' => 9,
+        b'n' | b'f' | b'F' => 17,
+        b'm' | b'r' | b't' | b'Q' | b'k' | b'h' | b'u' => 9,
         b'P' => 6,
         b'c' => 3,
-        b'C' | b'G' | b'q' | b's' => 1,
+        b'C' | b'G' | b'q' | b's' | b'o' => 1,
         b'b' | b'p' | b'z' | b'y' | b'T' | b'g' => 5,
         _ => 0,
     }
@@ -79,22 +80,54 @@ fn asked(letter: u8, case: &[u8], trace: &[u8], g: Given, lines: &mut [u8], line
     if letter == b'Q' {
         return sequence::from(case, trace, &kinds, lines, line);
     }
-    if letter == b's' {
-        return seeks::span(trace, &kinds, lines, line);
+    if is_sought(letter) {
+        return sought(letter, case, trace, &kinds, lines, line);
     }
-    if letter == b'k' {
-        return seeks::whole(case, trace, &kinds, lines, line);
-    }
-    if letter == b'h' {
-        return seeks::steps(case, trace, &kinds, lines, line);
-    }
-    if letter == b'j' {
-        return seeks::step(case, trace, &kinds, lines, line);
+    if letter == b'o' {
+        return pages::opened(g.version, trace, lines, line);
     }
     if letter == b'T' {
         return out::put_field(lines, line, trace.len() as u64);
     }
     out::put_field(lines, line, layout::u32_at(case, 1) as u64)
+}
+
+// Whether a case is about times or pages.
+fn is_sought(letter: u8) -> bool {
+    match letter {
+        b's' | b'k' | b'h' | b'j' | b'u' | b'f' | b'F' => true,
+        _ => false,
+    }
+}
+
+// What the line of such a case says after its letter.
+fn sought(
+    letter: u8,
+    case: &[u8],
+    trace: &[u8],
+    kinds: &[u8; 256],
+    lines: &mut [u8],
+    line: usize,
+) -> usize {
+    if letter == b's' {
+        return seeks::span(trace, kinds, lines, line);
+    }
+    if letter == b'k' {
+        return seeks::whole(case, trace, kinds, lines, line);
+    }
+    if letter == b'h' {
+        return seeks::steps(case, trace, kinds, lines, line);
+    }
+    if letter == b'j' {
+        return seeks::step(case, trace, kinds, lines, line);
+    }
+    if letter == b'u' {
+        return pages::seam(case, trace, kinds, lines, line);
+    }
+    if letter == b'f' {
+        return pages::one(case, trace, kinds, lines, line);
+    }
+    pages::chain(case, trace, kinds, lines, line)
 }
 
 // What the line of any other case says after its letter.
@@ -132,7 +165,21 @@ fn told(letter: u8, case: &[u8], lines: &mut [u8], line: usize) -> usize {
 // Whether a case is about the trace.
 fn on_trace(letter: u8) -> bool {
     match letter {
-        b'r' | b'n' | b't' | b'q' | b'Q' | b's' | b'k' | b'h' | b'j' | b'T' | b'P' => true,
+        b'r'
+        | b'n'
+        | b't'
+        | b'q'
+        | b'Q'
+        | b's'
+        | b'k'
+        | b'h'
+        | b'j'
+        | b'o'
+        | b'u'
+        | b'f'
+        | b'F'
+        | b'T'
+        | b'P' => true,
         _ => false,
     }
 }

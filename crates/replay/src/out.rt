@@ -135,6 +135,11 @@ pub fn less(a: u8, b: u8) -> u64 {
     (a - b) as u64
 }
 
+// The letter of a direction.
+pub fn side(direction: u8) -> u8 {
+    if direction == 0 { b'R' } else { b'T' }
+}
+
 pub fn digit(b: bool) -> u64 {
     if b { 1 } else { 0 }
 }

@@ -1,9 +1,8 @@
 -- Each answer is told in numbers of its own: two answers that tell the same are the same, so a promise about what is told determines the answer. Assumes nothing.
-use Prim.Native.Nat.{ℕ}
 use lib.Dec.{eqb}
-use lib.IntN.{ℤ, pos, negsuc}
 use mathlib.Core.Bool.{cond}
-use mathlib.Core.Path.{_≡_, refl, sym, ap, _∙_}
+use mathlib.Core.Path.{_≡_, refl}
+use Rattle.choice.proofs.Only.{only, number}
 use Rattle.resync.specs.Record.{RecordTold, toldRecord}
 use Rattle.resync.specs.Boundary.{BoundaryTold, toldBoundary}
 use Rattle.resync.specs.Search.{SearchTold, toldSearch, TimeTold, toldTime}
@@ -15,15 +14,6 @@ use Rattle.resync.specs.declared.Search.{Search}
 use Rattle.resync.specs.declared.Search.the-variants as Search
 use Rattle.resync.specs.declared.RecordTime.{RecordTime}
 use Rattle.resync.specs.declared.RecordTime.the-variants as Time
-
--- told and taken back
-module _ {A B : Type 0} (told : A → B) (back : B → A) (same : (a : A) → back (told a) ≡ a) where
-  only : (a b : A) → told a ≡ told b → a ≡ b
-  only a b e = sym (same a) ∙ ap back e ∙ same b
-
-number : ℤ → ℕ
-number (pos n) = n
-number (negsuc n) = 0
 
 backRecord : RecordTold → Record
 backRecord t =

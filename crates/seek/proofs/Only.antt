@@ -1,9 +1,8 @@
 -- Each answer is told in numbers of its own: two answers that tell the same are the same, so a promise about what is told determines the answer. Assumes nothing.
-use Prim.Native.Nat.{ℕ}
 use lib.Dec.{eqb}
-use lib.IntN.{ℤ, pos, negsuc}
 use mathlib.Core.Bool.{cond}
-use mathlib.Core.Path.{_≡_, refl, sym, ap, _∙_}
+use mathlib.Core.Path.{_≡_, refl, ap}
+use Rattle.choice.proofs.Only.{only, number}
 use Rattle.seek.specs.Met.{FirstTold, toldFirst}
 use Rattle.seek.specs.Span.{SpanTold, toldSpan}
 use Rattle.seek.specs.Seek.{SeekTold, toldSeek}
@@ -22,15 +21,6 @@ use Rattle.seek.specs.declared.SeekStart.{SeekStart}
 use Rattle.seek.specs.declared.SeekStart.the-variants as Start
 use Rattle.seek.specs.declared.SeekStep.{SeekStep}
 use Rattle.seek.specs.declared.SeekStep.the-variants as Step
-
--- told and taken back
-module _ {A B : Type 0} (told : A → B) (back : B → A) (same : (a : A) → back (told a) ≡ a) where
-  only : (a b : A) → told a ≡ told b → a ≡ b
-  only a b e = sym (same a) ∙ ap back e ∙ same b
-
-number : ℤ → ℕ
-number (pos n) = n
-number (negsuc n) = 0
 
 backFirst : FirstTold → FirstRecord
 backFirst t = cond (eqb (t .refusal) 0) (cond (t .isFound) (First.At (t .offset)) First.Nothing) First.TraceTooLong

@@ -1,0 +1,61 @@
+-- The gaps of a page: the first row's counts from the time before, and is 0 with none given; every other's is the difference to the row before.
+-- And gaps aside the rows of a record are its rows. Assumes nothing.
+use Prim.Native.Nat.{ℕ, zero, suc, _+_, _≤_, _<_}
+use lib.Dec.{ltb, eqb}
+use lib.IntN.{ℤ, pos, _-ℤ_}
+use lib.ListN.{length, getD}
+use mathlib.Core.Bool.{Bool, true, false, cond}
+use mathlib.Core.List.{List, [], _∷_, _++_}
+use mathlib.Core.Option.{Option, none, some}
+use mathlib.Core.Path.{_≡_, refl, sym, ap, subst, _∙_}
+use native.Mathlib.Numerals.{add-one}
+use native.Mathlib.Omega.{arith}
+use Rattle.choice.proofs.Choice.{by-choice}
+use Rattle.resync.specs.Search.{SearchTold, searched, defaultWindow}
+use Rattle.rows.specs.declared.Row.{Row}
+use Rattle.cursor.specs.Page.{withGap, gapOf, gapped, Taken, taken, PageGiven, withNone, lentTo, pageOf, pageFrom}
+use Rattle.cursor.specs.Step.{blankRow}
+
+-- the gaps of some rows, with the time before them
+pub record Gaps (before : Option ℤ) (rows : List Row) : Type 0 where
+  pub first : 0 < length rows → getD rows 0 blankRow .gap ≡ gapOf before (getD rows 0 blankRow .millis)
+  pub others : (i : ℕ) → i + 1 < length rows → getD rows (i + 1) blankRow .gap ≡ getD rows (i + 1) blankRow .millis -ℤ getD rows i blankRow .millis
+
+none-there : (before : Option ℤ) → Gaps before []
+none-there before = record { first = λ h. absurd (omega arith); others = λ i h. absurd (omega arith) }
+
+-- each row but the first, by its place
+each : (before : Option ℤ) (rows : List Row) (i : ℕ) → suc i < length rows
+    → getD (gapped before rows) (suc i) blankRow .gap ≡ getD (gapped before rows) (suc i) blankRow .millis -ℤ getD (gapped before rows) i blankRow .millis
+unfolding gapped
+each before [] i h = absurd (omega arith)
+each before (r ∷ []) i h = absurd (omega arith)
+each before (r ∷ (q ∷ rs)) zero h = refl
+each before (r ∷ (q ∷ rs)) (suc i) h = each (some (r .millis)) (q ∷ rs) i (omega arith)
+
+pub length-gapped : (before : Option ℤ) (rows : List Row) → length (gapped before rows) ≡ length rows
+unfolding gapped
+length-gapped before [] = refl
+length-gapped before (r ∷ rs) = ap suc (length-gapped (some (r .millis)) rs)
+
+first-of : (before : Option ℤ) (rows : List Row) → 0 < length (gapped before rows) → getD (gapped before rows) 0 blankRow .gap ≡ gapOf before (getD (gapped before rows) 0 blankRow .millis)
+unfolding gapped
+first-of before [] h = absurd (omega arith)
+first-of before (r ∷ rs) h = refl
+
+gaps : (before : Option ℤ) (rows : List Row) → Gaps before (gapped before rows)
+gaps before rows =
+    record {
+      first = first-of before rows;
+      others = λ i h. rw (add-one i) (each before rows i (omega (arith, length-gapped before rows)));
+    }
+
+-- the rows of a page, whatever its offset, count and room
+pub page-gaps : (next : ℕ → Option ℕ) (rows : ℕ → List Row) (n : ℕ) (before : Option ℤ) (offset count room : ℕ) → Gaps before (pageFrom next rows n before offset count room .rows)
+unfolding pageFrom
+page-gaps next rows n before offset count room =
+    let t = searched next n offset defaultWindow in
+    let k = taken next rows n (t .offset) count in
+    by-choice (λ (g : PageGiven). Gaps before (g .rows)) (t .isFound)
+    (λ _. by-choice (λ (g : PageGiven). Gaps before (g .rows)) (ltb room (length (k .rows))) (λ _. none-there before) (λ _. gaps before (k .rows)))
+    (λ _. none-there before)

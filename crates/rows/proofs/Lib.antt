@@ -1,0 +1,5 @@
+pub mod Goes
+pub mod Pti
+pub mod Zniffer
+pub mod Walk
+pub mod Inside
