@@ -2,7 +2,7 @@
 use crate::out;
 use zniffer::Answer;
 use zniffer::Parser;
-use zniffer::ParserResult;
+use zniffer_numbers::ParserResult;
 
 // A digit for each byte: 1 where it is a region.
 pub fn regions(lines: &mut [u8], line: usize) -> usize {
@@ -17,7 +17,7 @@ pub fn regions(lines: &mut [u8], line: usize) -> usize {
 
 fn accepted(region: u8) -> u8 {
     let bytes = [0x21, 0x01, 0x00, 0x00, 0x00, region];
-    let ran = zniffer::run_fresh(&bytes);
+    let ran = zniffer_core::run_fresh(&bytes);
     let r = ran.result;
     let ParserResult::IncompleteFrame = r else {
         return b'0';
@@ -124,7 +124,7 @@ fn results(s: &[u8], lines: &mut [u8], line: usize) -> usize {
 
 fn noted(i: usize, a: Answer, lines: &mut [u8], line: usize) -> usize {
     let r = a.result;
-    if zniffer::goes_on(r) {
+    if zniffer_numbers::goes_on(r) {
         return line;
     }
     let text = out::put_text(lines, line, b"\n ");
@@ -142,7 +142,7 @@ pub fn one_by_one(case: &[u8], lines: &mut [u8], line: usize) -> usize {
 // Bytes at once, to a parser that is lent: the result and the bytes used; then the parser that they leave.
 pub fn at_once(case: &[u8], lines: &mut [u8], line: usize) -> usize {
     let s = out::bytes_of(case);
-    let used = zniffer::parse_all(s);
+    let used = zniffer_lent::parse_all(s);
     let a = used.answer;
     let next = result(a, lines, line);
     let after = out::put_field(lines, next, used.used as u64);

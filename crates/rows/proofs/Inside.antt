@@ -17,13 +17,14 @@ use Rattle.pti.specs.declared.Split.{Split}
 use Rattle.pti.specs.declared.Split.the-variants.{Body, End}
 use Rattle.pti.specs.declared.Parsed.{Parsed}
 use Rattle.pti.specs.declared.Parsed.the-variants as Parsed
-use Rattle.zniffer.proofs.Theorems.{numbers-agree, payload-ends-there}
+use Rattle.zniffer_laws.proofs.Theorems.{numbers-agree, payload-ends-there}
 use Rattle.zniffer.specs.Parse.{freshParser, runFrom}
-use Rattle.zniffer.specs.Statements.{lengthOf, EndsThere}
-use Rattle.zniffer.specs.Step.{freshCore, goesOn, coreRunFrom}
-use Rattle.zniffer.specs.declared.core.CoreRan.{CoreRan}
-use Rattle.zniffer.specs.declared.core.ParserResult.{ParserResult}
-use Rattle.zniffer.specs.declared.core.ParserResult.the-variants.{ValidCommand, ValidFrame, IncompleteFrame, InvalidFrame}
+use Rattle.zniffer_laws.specs.Statements.{lengthOf, EndsThere}
+use Rattle.zniffer_numbers.specs.Numbers.{freshCore, goesOn}
+use Rattle.zniffer_core.specs.Run.{coreRunFrom}
+use Rattle.zniffer_core.specs.declared.CoreRan.{CoreRan}
+use Rattle.zniffer_numbers.specs.declared.ParserResult.{ParserResult}
+use Rattle.zniffer_numbers.specs.declared.ParserResult.the-variants.{ValidCommand, ValidFrame, IncompleteFrame, InvalidFrame}
 use Rattle.rows.specs.Frames.{Placed, heldBy, ptiFrom, completed, znifferFrom, framesFrom}
 use Rattle.rows.proofs.Pti as pti
 use Rattle.rows.proofs.Zniffer as zniffer

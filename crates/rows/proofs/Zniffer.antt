@@ -12,15 +12,16 @@ use native.Mathlib.Numerals.{unary-clauses}
 use native.Mathlib.Omega.{arith}
 use native.Mathlib.Nat.{add-assoc}
 use Rattle.choice.proofs.Choice.{either}
-use Rattle.zniffer.proofs.AfterStep.{fresh-after}
-use Rattle.zniffer.proofs.RunLaws.{used-most, used-some}
-use Rattle.zniffer.proofs.core.ParserResult.{the-type}
+use Rattle.zniffer_laws.proofs.AfterStep.{fresh-after}
+use Rattle.zniffer_core.proofs.RunLaws.{used-most, used-some}
+use Rattle.zniffer_numbers.proofs.ParserResult.{the-type}
 use Rattle.pti.specs.declared.PtiFrame.{PtiFrame}
-use Rattle.zniffer.specs.Step.{freshCore, coreStepOf, goesOn, coreRunFrom}
-use Rattle.zniffer.specs.declared.core.Core.{Core}
-use Rattle.zniffer.specs.declared.core.CoreRan.{CoreRan}
-use Rattle.zniffer.specs.declared.core.ParserResult.{ParserResult}
-use Rattle.zniffer.specs.declared.core.ParserResult.the-variants.{ValidCommand, ValidFrame, IncompleteFrame, InvalidFrame}
+use Rattle.zniffer_numbers.specs.Numbers.{freshCore, goesOn}
+use Rattle.zniffer_core.specs.Run.{coreStepOf, coreRunFrom}
+use Rattle.zniffer_numbers.specs.declared.Core.{Core}
+use Rattle.zniffer_core.specs.declared.CoreRan.{CoreRan}
+use Rattle.zniffer_numbers.specs.declared.ParserResult.{ParserResult}
+use Rattle.zniffer_numbers.specs.declared.ParserResult.the-variants.{ValidCommand, ValidFrame, IncompleteFrame, InvalidFrame}
 use Rattle.rows.specs.Frames.{Placed, znifferFrame, completed, completedBy, znifferFrom, firstOf}
 use Rattle.rows.specs.declared.Next.{Next}
 use Rattle.rows.specs.declared.Next.the-variants as Next

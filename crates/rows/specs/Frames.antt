@@ -12,10 +12,11 @@ use Rattle.pti.specs.Frame.{directionOf, frameOf}
 use Rattle.pti.specs.declared.PtiFrame.{PtiFrame}
 use Rattle.pti.specs.declared.Parsed.{Parsed}
 use Rattle.pti.specs.declared.Parsed.the-variants as Parsed
-use Rattle.zniffer.specs.Step.{freshCore, coreStepOf}
-use Rattle.zniffer.specs.declared.core.Core.{Core}
-use Rattle.zniffer.specs.declared.core.ParserResult.{ParserResult}
-use Rattle.zniffer.specs.declared.core.ParserResult.the-variants.{ValidCommand, ValidFrame, IncompleteFrame, InvalidFrame}
+use Rattle.zniffer_numbers.specs.Numbers.{freshCore}
+use Rattle.zniffer_core.specs.Run.{coreStepOf}
+use Rattle.zniffer_numbers.specs.declared.Core.{Core}
+use Rattle.zniffer_numbers.specs.declared.ParserResult.{ParserResult}
+use Rattle.zniffer_numbers.specs.declared.ParserResult.the-variants.{ValidCommand, ValidFrame, IncompleteFrame, InvalidFrame}
 use Rattle.rows.specs.declared.Next.{Next}
 use Rattle.rows.specs.declared.Next.the-variants as Next
 

@@ -8,7 +8,7 @@ use layout::ZNIFFER;
 use pti::Parsed;
 use pti::PtiFrame;
 use pti::Split;
-use zniffer::ParserResult;
+use zniffer_numbers::ParserResult;
 ghost use mathlib.Core.Path.{_≡_};
 ghost use Prim.Native.Nat.{_+_, _-_, _<_};
 ghost use lib.ListN.{length};
@@ -17,7 +17,8 @@ ghost use mir.Val.{toZ};
 ghost use Rattle.pti.specs.Frame.{directionOf};
 ghost use Rattle.rows.specs.Frames.{shifted, znifferFrame, firstOf, ptiFrom, znifferFrom, framesFrom};
 
-// A row of the lent table: one to a frame, numbers only.
+// A row of the lent table: one to a frame, numbers only. C reads it too.
+#[repr(C)]
 pub struct Row {
     // The record's offset, and the frame's position among those of the record.
     pub record: usize,
@@ -143,7 +144,7 @@ fn next_zniffer(payload: &[u8], outgoing: bool, at: usize) -> Next
     let mut from = at;
     while from < payload.len() {
         let rest = &payload[from..];
-        let ran = zniffer::run_fresh(rest);
+        let ran = zniffer_core::run_fresh(rest);
         let result = ran.result;
         let end = from + ran.used;
         if let ParserResult::IncompleteFrame = result {

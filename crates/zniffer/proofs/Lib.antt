@@ -1,13 +1,2 @@
-pub mod Laws
-pub mod AfterStep
-pub mod Reach
-pub mod RunLaws
 pub mod ParserLaws
-pub mod Lies
-pub mod AfterResult
-pub mod Figures
 pub mod Agree
-pub mod ReachParser
-pub mod Place
-pub mod ToldOnly
-pub mod Theorems

@@ -1,16 +1,17 @@
 // The parser with its payload, by value: a step, and a run over several bytes.
 ghost use mathlib.Core.Path.{_≡_};
 ghost use mathlib.Core.Bool.{true};
-ghost use Rattle.zniffer.specs.Tests.{reachableOf};
+ghost use Rattle.zniffer_states.specs.Tests.{reachableOf};
 ghost use Rattle.zniffer.specs.Parse.{zeros, coreOf, parserOf, freshParser, withByte, settle, stepOf, runFrom};
-use super::core::Core;
-use super::core::ParserResult;
-use super::core::core_step;
-use super::core::goes_on;
-use super::core::reachable;
-use super::states::take_byte;
+use zniffer_core::core_step;
+use zniffer_numbers::Core;
+use zniffer_numbers::ParserResult;
+use zniffer_numbers::goes_on;
+use zniffer_states::reachable;
+use zniffer_states::take_byte;
 
-// The numbers of `core::Core`, and the payload so far, of which `count` bytes are there and no others are looked at.
+// The numbers of `Core`, and the payload so far, of which `count` bytes are there and no others are looked at.
+#[repr(C)]
 pub struct Parser {
     pub state: u8,
     pub command_id: u8,

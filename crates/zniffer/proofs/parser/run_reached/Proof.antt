@@ -8,11 +8,11 @@ use native.Mathlib.Omega.{arith}
 use borrow.Author.Needs.{needs}
 use borrow.Author.Tests.{not-true, not-false}
 use lib.ListN.{length, drop, getD}
-use Rattle.zniffer.specs.Step.{goesOn}
+use Rattle.zniffer_numbers.specs.Numbers.{goesOn}
 use Rattle.zniffer.specs.Parse.{parserOf, stepOf, withByte, runFrom}
-use Rattle.zniffer.specs.Tests.{reachableOf}
-use Rattle.zniffer.proofs.RunLaws.{taken}
-use Rattle.zniffer.proofs.Reach.{kept}
+use Rattle.zniffer_states.specs.Tests.{reachableOf}
+use Rattle.zniffer_core.proofs.RunLaws.{took}
+use Rattle.zniffer_core.proofs.Kept.{kept}
 use Rattle.zniffer.proofs.ParserLaws.{place, run-more, run-last, run-end}
 use Rattle.zniffer.proofs.Agree.{step-of, result-of, next-of}
 use Rattle.zniffer.proofs.parser.run_reached.Statement.{statement}
@@ -56,7 +56,7 @@ returns : tie.Need-returns Inv-loop μ-loop
 returns c =
     let at = c .before .before .before .before .before .before .before .before .before .before .before .before in
     let s = at .before .before .args .s .now in let i = at .loop .i in let t = c .before .before .before .before .before .before .take-byte in
-    let e = t .ensures ∙ taken (at .loop .c) (getD s i 0) (at .loop .inv .1) in
+    let e = t .ensures ∙ took (at .loop .c) (getD s i 0) (at .loop .inv .1) in
     let q = step-of (at .loop .c) (at .loop .l) (getD s i 0) (t .result) (c .before .before .before .before .before .before .before .if1 .l) e (filled (c .before .before .before .before .before .before .before)) in
     let r = result-of (at .loop .c) (at .loop .l) (getD s i 0) (t .result) (c .before .before .before .before .before .before .before .if1 .l) e (filled (c .before .before .before .before .before .before .before)) in
     let g : goesOn (stepOf (parserOf (at .loop .c) (at .loop .l)) (getD s i 0) .answer .result) ≡ false = rw (← r, ← c .before .before .before .before .goes-on .ensures) (not-true (c .before .before .before .before .goes-on .result) (c .before .before .before .if2 .taken)) in
@@ -69,7 +69,7 @@ loop-again : tie.Need-loop-again Inv-loop μ-loop
 loop-again c =
     let at = c .before .before .before .before .before .before .before .before .before in
     let s = at .before .before .args .s .now in let i = at .loop .i in let t = c .before .before .before .take-byte in
-    let e = t .ensures ∙ taken (at .loop .c) (getD s i 0) (at .loop .inv .1) in
+    let e = t .ensures ∙ took (at .loop .c) (getD s i 0) (at .loop .inv .1) in
     let q = step-of (at .loop .c) (at .loop .l) (getD s i 0) (t .result) (c .before .before .before .before .if1 .l) e (filled (c .before .before .before .before)) in
     let r = result-of (at .loop .c) (at .loop .l) (getD s i 0) (t .result) (c .before .before .before .before .if1 .l) e (filled (c .before .before .before .before)) in
     let yes : goesOn (t .result .result) ≡ true = rw (← c .before .goes-on .ensures) (not-false (c .before .goes-on .result) (c .if2 .left)) in
