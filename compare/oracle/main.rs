@@ -5,6 +5,7 @@
 //! and window pass 2^64 - 1 is refusal 5, and a seek whose bounds have crossed scans from lo. How often that happened is said on
 //! standard error. Any other panic of the Rust ends the oracle.
 mod lines;
+mod list;
 
 use std::io::{Cursor, Read, Result, Write};
 use std::panic::{AssertUnwindSafe, catch_unwind};
@@ -391,8 +392,15 @@ fn main() {
         let said = text.downcast_ref::<&str>().map(|s| s.to_string()).or_else(|| text.downcast_ref::<String>().cloned());
         *PANIC.lock().unwrap() = format!("{} {file}", said.unwrap_or_default());
     }));
+    let words: Vec<String> = std::env::args().skip(1).collect();
+    if words.first().is_some_and(|w| w == "list") {
+        return list::list(&words[1..]);
+    }
     let mut bytes = Vec::new();
     std::io::stdin().read_to_end(&mut bytes).unwrap();
+    if words.first().is_some_and(|w| w == "list-inputs") {
+        return list::inputs(&words[1..], bytes);
+    }
     let mut i = Cases { bytes, at: 0 };
     let (mut trace, mut out, mut cases) = (Vec::new(), Vec::new(), 0u64);
     let mut stdout = std::io::stdout().lock();

@@ -1,0 +1,5 @@
+pub mod Lines
+pub mod Answers
+pub mod Tables
+pub mod Pages
+pub mod Turns

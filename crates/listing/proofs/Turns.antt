@@ -1,0 +1,109 @@
+-- The list has every page: a page that names a next place names a later one, before the trace's end. So a trace has no more pages than
+-- bytes, and the text is the lines of the rows of the pages read one after the other, and what follows them. Assumes nothing.
+use Prim.Native.Nat.{ℕ, zero, suc, _+_, _-_, _≤_, _<_}
+use lib.Dec.{ltb, eqb}
+use lib.IntN.{ℤ}
+use lib.ListN.{length}
+use mathlib.Core.Bool.{Bool, true, false, cond, true≢false}
+use mathlib.Core.List.{List, [], _∷_, _++_, append-assoc, append-nil, flatMap}
+use mathlib.Core.Option.{Option, none, some}
+use mathlib.Core.Path.{_≡_, refl, sym, ap, _∙_}
+use native.Mathlib.Omega.{arith}
+use borrow.Author.Tests.{ltb-true}
+use Rattle.choice.proofs.Choice.{by-choice}
+use Rattle.layout.specs.Layout.{headerSize}
+use Rattle.resync.specs.Record.{plausible, nextAt}
+use Rattle.resync.specs.Search.{SearchTold, searched, defaultWindow}
+use Rattle.resync.proofs.Chain.{Steps, boundary-record}
+use Rattle.resync.proofs.Found.{FoundFirst, found-is}
+use Rattle.resync.proofs.Valid.{record-steps}
+use Rattle.rows.specs.Rows.{rowsAt}
+use Rattle.rows.specs.declared.Row.{Row}
+use Rattle.cursor.specs.Page.{Taken, taken, none-taken, with-record, gapped, PageTold, PageGiven, nextTold, goingOn, lastPage, withNone, pageRefused, lentTo, pageFrom}
+use Rattle.cursor.specs.Reading.{Read, last, more, joined}
+use Rattle.cursor.proofs.Pages.{taken-stops, taken-on}
+use Rattle.cursor.proofs.Walks.{by-records}
+use Rattle.listing.specs.Lines.{rowText}
+use Rattle.listing.specs.Listing.{rowsText, pageOf, pagesText}
+
+-- a page that names a next place names a later one, before the end
+pub Moves : ℕ → ℕ → PageGiven → Type 0
+Moves n at g = g .told .isMore ≡ true → (at < g .told .next) × (g .told .next < n)
+
+module _ (next : ℕ → Option ℕ) (rows : ℕ → List Row) (n : ℕ) (steps : Steps next n) where
+  -- what is taken ends no earlier than it begins
+  further : (at count : ℕ) → at ≤ taken next rows n at count .end
+  further =
+      by-records next n steps (λ (at : ℕ). (count : ℕ) → at ≤ taken next rows n at count .end)
+      (λ at e count. rw (taken-stops next rows n steps at count e) (omega arith))
+      (λ at m e after count.
+      rw (taken-on next rows n steps at m count e)
+      (by-choice (λ (t : Taken). at ≤ t .end) (eqb count 0)
+      {a = none-taken at} {b = with-record (rows at) (taken next rows n m (count - length (rows at)))}
+      (λ x. omega arith)
+      (λ x. omega (arith, steps .grows at m e, after (count - length (rows at))))))
+
+  -- and later where a record is there and rows are wanted
+  later : (at m : ℕ) → next at ≡ some m → at < taken next rows n at 64 .end
+  later at m e = rw (taken-on next rows n steps at m 64 e) (omega (arith, steps .grows at m e, further m (64 - length (rows at))))
+
+  module _ (before : Option ℤ) (offset room : ℕ) where
+    moves-lent : (start m : ℕ) → offset ≤ start → next start ≡ some m → Moves n offset (lentTo n before room 64 start (taken next rows n start 64))
+    unfolding Moves
+    moves-lent start m h e =
+        let t = taken next rows n start 64 in
+        by-choice (Moves n offset) (ltb room (length (t .rows)))
+        {a = withNone (pageRefused 7)} {b = record { told = nextTold n 64 start t; rows = gapped before (t .rows) }}
+        (λ x y. absurd (true≢false (sym y)))
+        (λ x. by-choice (λ (p : PageTold). p .isMore ≡ true → (offset < p .next) × (p .next < n)) (ltb (t .end) n)
+        {a = goingOn start (length (t .rows)) (t .end)} {b = lastPage start (length (t .rows))}
+        (λ z y. (omega (arith, later start m e), ltb-true (t .end) n z))
+        (λ z y. absurd (true≢false (sym y))))
+
+    pub moves : Moves n offset (pageFrom next rows n before offset 64 room)
+    unfolding pageFrom Moves
+    moves =
+        let t = searched next n offset defaultWindow in
+        by-choice (Moves n offset) (t .isFound)
+        (λ e.
+        let first : FoundFirst next n _ defaultWindow t = found-is next n offset defaultWindow t refl e in
+        let there = boundary-record next n (t .offset) (first .is-boundary) in
+        moves-lent (t .offset) (there .0) (omega (arith, first .from)) (there .1))
+        (λ e. by-choice (λ (p : PageTold). p .isMore ≡ true → (offset < p .next) × (p .next < n)) (eqb (t .refusal) 0)
+        {a = lastPage offset 0} {b = pageRefused (t .refusal)}
+        (λ z y. absurd (true≢false (sym y)))
+        (λ z y. absurd (true≢false (sym y))))
+
+flat-append : (f : Row → List ℕ) (a b : List Row) → flatMap f (a ++ b) ≡ flatMap f a ++ flatMap f b
+unfolding flatMap
+flat-append f [] b = refl
+flat-append f (x ∷ a) b = ap (λ (t : List ℕ). f x ++ t) (flat-append f a b) ∙ sym (append-assoc (f x) (flatMap f a) (flatMap f b))
+
+module _ (page : ℕ → PageGiven) where
+  -- so many pages
+  number : (n : ℕ) → ((at : ℕ) → Moves n at (page at)) → {k at : ℕ} {pages : List PageGiven} → Read (λ (i : ℕ). page) k at pages → at ≤ n → length pages + at ≤ n + 1
+  unfolding Moves
+  number n m (last r e) h = omega arith
+  number n m {at = at} (more r e rest) h = omega (arith, m at e .0, number n m rest (omega (arith, m at e .1)))
+
+  -- their text
+  pub read-text : (end : List ℕ) {k at : ℕ} {pages : List PageGiven} → Read (λ (i : ℕ). page) k at pages → (turns : ℕ) → length pages ≤ turns
+      → pagesText page end turns at ≡ flatMap rowText (joined pages) ++ end
+  unfolding pagesText rowsText joined flatMap
+  read-text end (last r e) zero h = absurd (omega arith)
+  read-text end {at = at} (last r e) (suc turns) h = simp (r, e) (ap (λ (x : List Row). flatMap rowText x ++ end) (sym (append-nil (page at .rows))))
+  read-text end (more r e rest) zero h = absurd (omega arith)
+  read-text end {at = at} (more {pages = pages} r e rest) (suc turns) h =
+      simp (r, e)
+      (ap (λ (t : List ℕ). flatMap rowText (page at .rows) ++ t) (read-text end rest turns (omega arith))
+      ∙ sym (append-assoc (flatMap rowText (page at .rows)) (flatMap rowText (joined pages)) end)
+      ∙ ap (λ (t : List ℕ). t ++ end) (sym (flat-append rowText (page at .rows) (joined pages))))
+
+-- the pages from 2,048 on, each from the place that the last one named, are listed whole
+pub all-listed : (kinds s end : List ℕ) {pages : List PageGiven} → headerSize ≤ length s → Read (λ (i : ℕ). pageOf kinds s) 0 headerSize pages
+    → pagesText (pageOf kinds s) end (length s) headerSize ≡ flatMap rowText (joined pages) ++ end
+all-listed kinds s end {pages} h r =
+    let n : length pages + headerSize ≤ length s + 1 =
+    number (pageOf kinds s) (length s)
+    (λ at. moves (nextAt plausible kinds s) (rowsAt kinds s) (length s) (record-steps plausible kinds s) none at 600) r h in
+    read-text (pageOf kinds s) end r (length s) (omega arith)
