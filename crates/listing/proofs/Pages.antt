@@ -5,14 +5,14 @@ use lib.Dec.{ltb, eqb}
 use lib.IntN.{ℤ}
 use lib.ListN.{length, take, drop}
 use lib.Seq.{take-append-seam}
-use mathlib.Core.Bool.{Bool, true, false, cond}
-use mathlib.Core.List.{List, [], _∷_, _++_, flatMap}
+use mathlib.Core.Bool.{false}
+use mathlib.Core.List.{List, _++_, flatMap}
 use mathlib.Core.Logic.{_⊎_, ⊎-elim}
-use mathlib.Core.Option.{Option, none}
+use mathlib.Core.Option.{Option}
 use mathlib.Core.Path.{_≡_, refl, sym, ap, _∙_}
 use native.Mathlib.Omega.{arith}
 use Rattle.choice.proofs.Choice.{by-choice}
-use Rattle.resync.specs.Search.{SearchTold, searched, defaultWindow}
+use Rattle.resync.specs.Search.{searched, defaultWindow}
 use Rattle.rows.specs.declared.Row.{Row}
 use Rattle.cursor.specs.Page.{Taken, taken, gapped, PageTold, PageGiven, nextTold, goingOn, withNone, pageRefused, lentTo, pageFrom, Answered, toldPage}
 use Rattle.cursor.specs.declared.Page.{Page}

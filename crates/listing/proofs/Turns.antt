@@ -4,7 +4,7 @@ use Prim.Native.Nat.{ℕ, zero, suc, _+_, _-_, _≤_, _<_}
 use lib.Dec.{ltb, eqb}
 use lib.IntN.{ℤ}
 use lib.ListN.{length}
-use mathlib.Core.Bool.{Bool, true, false, cond, true≢false}
+use mathlib.Core.Bool.{true, false, true≢false}
 use mathlib.Core.List.{List, [], _∷_, _++_, append-assoc, append-nil, flatMap}
 use mathlib.Core.Option.{Option, none, some}
 use mathlib.Core.Path.{_≡_, refl, sym, ap, _∙_}
@@ -13,7 +13,7 @@ use borrow.Author.Tests.{ltb-true}
 use Rattle.choice.proofs.Choice.{by-choice}
 use Rattle.layout.specs.Layout.{headerSize}
 use Rattle.resync.specs.Record.{plausible, nextAt}
-use Rattle.resync.specs.Search.{SearchTold, searched, defaultWindow}
+use Rattle.resync.specs.Search.{searched, defaultWindow}
 use Rattle.resync.proofs.Chain.{Steps, boundary-record}
 use Rattle.resync.proofs.Found.{FoundFirst, found-is}
 use Rattle.resync.proofs.Valid.{record-steps}

@@ -3,7 +3,7 @@ use Prim.Native.Nat.{ℕ, zero, suc}
 use lib.Dec.{leb, eqb}
 use lib.ListN.{length, take, drop}
 use mathlib.Core.Bool.{cond, _&&_}
-use mathlib.Core.List.{List, [], _∷_, _++_, flatMap}
+use mathlib.Core.List.{List, [], _++_, flatMap}
 use mathlib.Core.Option.{none}
 use Rattle.layout.specs.Layout.{leAt, headerSize}
 use Rattle.rows.specs.declared.Row.{Row}

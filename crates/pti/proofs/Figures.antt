@@ -1,26 +1,16 @@
--- The worked figures of document 01, by computation. Assumes nothing.
+-- Worked examples beside those that document 01 marks P, by computation. Assumes nothing.
 use Prim.Native.Nat.{ℕ}
 use lib.IntN.{negsuc}
 use lib.ListN.{replicate}
 use mathlib.Core.List.{List, [], _∷_, _++_}
 use mathlib.Core.Path.{_≡_, refl}
-use Rattle.pti.specs.Beam.{starts, repeats, beamCount}
 use Rattle.pti.specs.Bracket.{good, walk, bodiesFrom, bodies, nextRecord}
 use Rattle.pti.specs.Frame.{partsOf, sidedOf, taggedOf, frameOf}
-use Rattle.pti.specs.declared.Split.the-variants.{Body, End}
-use Rattle.pti.specs.declared.Parsed.the-variants.{Frame, Nothing}
+use Rattle.pti.specs.declared.Split.the-variants.{Body}
+use Rattle.pti.specs.declared.Parsed.the-variants.{Frame}
 use Rattle.speed.specs.Speed.{among, speedFor}
 
--- 5B 02 00 5D gives nothing
-pub four-bytes : bodies (0x5B ∷ 0x02 ∷ 0x00 ∷ 0x5D ∷ []) ≡ []
-unfolding bodiesFrom walk good
-four-bytes = refl
-
--- 5B 03 00 02 5D gives body 02
-pub one-body : bodies (0x5B ∷ 0x03 ∷ 0x00 ∷ 0x02 ∷ 0x5D ∷ []) ≡ record { at = 3; len = 1 } ∷ []
-unfolding bodiesFrom walk good
-one-body = refl
-
+-- one step over 5B 03 00 02 5D
 pub one-step : nextRecord (0x5B ∷ 0x03 ∷ 0x00 ∷ 0x02 ∷ 0x5D ∷ []) 0 ≡ Body 3 1 5
 unfolding nextRecord walk good
 one-step = refl
@@ -33,15 +23,6 @@ passed-over = refl
 pub bad-length : bodies (0x5B ∷ 0x00 ∷ 0x5B ∷ 0x02 ∷ 0x00 ∷ 0x5D ∷ []) ≡ []
 unfolding bodiesFrom walk good
 bad-length = refl
-
--- beams at pattern 3: 55 01 is 1; 55 01 02 00 55 01 02 is 2
-pub cut-beam : beamCount 3 (0x55 ∷ 0x01 ∷ []) ≡ 1
-unfolding beamCount repeats starts
-cut-beam = refl
-
-pub two-beams : beamCount 3 (0x55 ∷ 0x01 ∷ 0x02 ∷ 0x00 ∷ 0x55 ∷ 0x01 ∷ 0x02 ∷ []) ≡ 2
-unfolding beamCount repeats starts
-two-beams = refl
 
 -- the body of the record of `trace-list`
 pub one-frame : frameOf ((0x02 ∷ replicate 10 0x00) ++ 0xF8 ∷ 0xAA ∷ 0xBB ∷ 0xF9 ∷ 0xC4 ∷ 0x01 ∷ 0x01 ∷ 0x06 ∷ 0x00 ∷ [])

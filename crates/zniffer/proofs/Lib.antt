@@ -1,2 +1,3 @@
 pub mod ParserLaws
 pub mod Agree
+pub mod Quick

@@ -1,6 +1,8 @@
 // The parser with its payload, by value: a step, and a run over several bytes.
 ghost use mathlib.Core.Path.{_≡_};
-ghost use mathlib.Core.Bool.{true};
+ghost use mathlib.Core.Bool.{true, not, _&&_};
+ghost use Prim.Native.Nat.{_+_};
+ghost use lib.Dec.{eqb, ltb};
 ghost use Rattle.zniffer_states.specs.Tests.{reachableOf};
 ghost use Rattle.zniffer.specs.Parse.{zeros, coreOf, parserOf, freshParser, withByte, settle, stepOf, runFrom};
 use zniffer_core::core_step;
@@ -182,8 +184,23 @@ pub fn step(p: Parser, value: u8) -> Parsed
     settled(next, filled, result)
 }
 
+// Whether an idle parser ignores a byte.
+fn ignores(c: Core, value: u8) -> bool
+    ensures { λ r. ⌜ r ≡ (eqb (c .state) 0 && (not (eqb value 0x23) && not (eqb value 0x21))) ⌝ }
+{
+    (c.state == 0) & (!(value == 0x23) & !(value == 0x21))
+}
+
+// Whether a payload awaits this byte and another.
+fn has_more(c: Core) -> bool
+    ensures { λ r. ⌜ r ≡ (eqb (c .state) 3 && ltb (c .count + 1) (c .length)) ⌝ }
+{
+    (c.state == 3) & ((c.count as u16) + 1 < (c.length as u16))
+}
+
 // Several bytes, up to the first result that wants no more, at numbers that pass the test, which is not made again. The
-// payload is filled where it lies, and is not copied at each byte.
+// payload is filled where it lies, and is not copied at each byte. Bytes that are ignored, and those of a payload but the last, are
+// taken here, where they cost little.
 fn run_reached(first: Core, payload: [u8; 255], s: &[u8]) -> Ran
     requires { ⌜ reachableOf first ≡ true ⌝ }
     ensures { λ r. ⌜ r ≡ runFrom 0 (now (s .entry)) (parserOf first payload) ⌝ }
@@ -193,6 +210,16 @@ fn run_reached(first: Core, payload: [u8; 255], s: &[u8]) -> Ran
     let mut i = 0;
     while i < s.len() {
         let b = s[i];
+        i += 1;
+        if ignores(c, b) {
+            continue;
+        }
+        if has_more(c) {
+            let at = c.count as usize;
+            l[at] = b;
+            c.count = c.count + 1;
+            continue;
+        }
         let awaited = (c.state == 3) & (c.count < c.length);
         if awaited {
             let at = c.count as usize;
@@ -201,7 +228,6 @@ fn run_reached(first: Core, payload: [u8; 255], s: &[u8]) -> Ran
         let t = take_byte(c, b);
         c = t.core;
         let result = t.result;
-        i += 1;
         if !goes_on(result) {
             let e = settled(c, l, result);
             let next = e.parser;

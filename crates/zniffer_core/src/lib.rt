@@ -2,6 +2,9 @@
 // bytes that were given, runs these. Carried over from `zniffer_parser.rs`.
 ghost use mathlib.Core.Path.{_≡_};
 ghost use mathlib.Core.Bool.{true};
+ghost use mathlib.Core.List.{List};
+ghost use Prim.Native.Nat.{ℕ, _+_, _≤_};
+ghost use lib.ListN.{length, drop};
 ghost use Rattle.zniffer_states.specs.Tests.{reachableOf};
 ghost use Rattle.zniffer_numbers.specs.Numbers.{freshCore};
 ghost use Rattle.zniffer_core.specs.Run.{coreStepOf, coreRunFrom};
@@ -30,6 +33,33 @@ pub fn core_step(c: Core, value: u8) -> CoreStep
     }
 }
 
+// Numbers that some bytes were passed over with, and how many these were.
+struct Ahead {
+    pub core: Core,
+    pub by: usize,
+}
+
+fn smaller(a: usize, b: usize) -> usize
+    ensures { λ r. ⌜ (r ≤ a) × (r ≤ b) ⌝ }
+{
+    if a < b { a } else { b }
+}
+
+// A payload's bytes but the last change the count alone: those among the next n are passed over at once.
+fn skip_ahead(c: Core, n: usize) -> Ahead
+    requires { ⌜ reachableOf c ≡ true ⌝ }
+    ensures { λ r. ⌜ (r .by ≤ n) × (reachableOf (r .core) ≡ true)
+        × ((k : ℕ) (bs : List ℕ) → r .by ≤ length bs → coreRunFrom k bs c ≡ coreRunFrom (k + r .by) (drop (r .by) bs) (r .core)) ⌝ }
+{
+    if c.state != 3 {
+        return Ahead { core: c, by: 0 };
+    }
+    let by = smaller((c.length - c.count - 1) as usize, n);
+    let mut next = c;
+    next.count = c.count + (by as u8);
+    Ahead { core: next, by }
+}
+
 // Several bytes, up to the first result that wants no more. What a byte leaves passes the test, so it is not made again
 // at each byte.
 fn run_reached(c: Core, s: &[u8]) -> CoreRan
@@ -50,7 +80,9 @@ fn run_reached(c: Core, s: &[u8]) -> CoreRan
                 used: i,
             };
         }
-        q = next;
+        let on = skip_ahead(next, s.len() - i);
+        q = on.core;
+        i += on.by;
     }
     CoreRan {
         core: q,

@@ -5,5 +5,4 @@ pub mod Agree
 pub mod ReachParser
 pub mod Place
 pub mod ToldOnly
-pub mod Figures
 pub mod Theorems

@@ -2,7 +2,7 @@
 use Rattle.listing.proofs.Tables.{next-kind, all-kinds}
 use native.Mathlib.Omega.{arith}
 use borrow.Author.Needs.{needs}
-use Prim.Native.Nat.{_≤_, _<_, _+_, _-_}
+use Prim.Native.Nat.{_≤_, _-_}
 use mathlib.Core.Path.{_≡_, refl}
 use lib.ListN.{length, take}
 use Rattle.listing.proofs.kind_table.Statement.{statement}

@@ -4,7 +4,6 @@ use Rattle.listing.proofs.Answers.{short-text, long-text, listed-text, 
 use borrow.Author.Needs.{needs}
 use Rattle.listing.proofs.list.Statement.{statement}
 use Rattle.listing.proofs.list.Tie as tie
-use Rattle.layout.proofs.u32_at.Reads as u32-at-reads
 
 refusal-line-requires : tie.Need-refusal-line-requires
 refusal-line-requires c κs = search needs

@@ -1,4 +1,5 @@
--- `listing::put_mpdu` meets its contract. Assumes nothing.
+-- `listing::put_mpdu` meets its contract. `told` says of each field of the row, in order, that its number fits; RSSI is the ninth.
+-- Assumes nothing.
 use Rattle.listing.proofs.Lines.{fields, same-field, widened}
 use borrow.Author.Needs.{needs}
 use Rattle.listing.proofs.put_mpdu.Statement.{statement}

@@ -6,7 +6,7 @@ use Rattle.resync.specs.Record.{plausible, nextAt}
 use native.Mathlib.Omega.{arith}
 use mathlib.Core.Option.{none}
 use borrow.Author.Needs.{needs}
-use Prim.Native.Nat.{_≤_, _<_, _+_, _-_}
+use Prim.Native.Nat.{_≤_, _+_, _-_}
 use mathlib.Core.Path.{_≡_, refl}
 use lib.ListN.{length}
 use Rattle.layout.specs.Layout.{headerSize}

@@ -1,7 +1,7 @@
 -- `listing::row_lines` meets its contract: at each turn the lines of the rows from `i` on are left to be put. Assumes nothing.
 use Rattle.listing.proofs.Tables.{next-row, no-row}
 use borrow.Author.Needs.{needs}
-use Prim.Native.Nat.{_≤_, _<_, _+_, _-_}
+use Prim.Native.Nat.{_≤_, _-_}
 use mathlib.Core.Path.{_≡_, refl}
 use mathlib.Core.List.{flatMap}
 use lib.ListN.{length, take, drop}

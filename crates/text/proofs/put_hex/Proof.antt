@@ -2,7 +2,7 @@
 use native.Mathlib.Nat.{mod-lt, div-lt-iff-lt-mul}
 use native.Mathlib.Omega.{arith}
 use borrow.Author.Needs.{needs}
-use Prim.Native.Nat.{_≤_, _<_, _+_, _-_}
+use Prim.Native.Nat.{_≤_, _-_}
 use mathlib.Core.Path.{_≡_, refl, ap}
 use lib.ListN.{length, drop, drop-of-length-le}
 use Rattle.text.proofs.Puts.{Left, all-left, less-left, none-left, next-hex}

@@ -1,6 +1,6 @@
 -- `text::put_text` meets its contract: at each turn the text from `i` on is left to be put. Assumes nothing.
 use borrow.Author.Needs.{needs}
-use Prim.Native.Nat.{_≤_, _<_, _+_, _-_}
+use Prim.Native.Nat.{_≤_, _-_}
 use mathlib.Core.Path.{_≡_, refl}
 use lib.ListN.{length, drop, drop-of-length-le}
 use Rattle.text.proofs.Puts.{Left, all-left, less-left, none-left, next-byte}

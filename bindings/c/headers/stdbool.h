@@ -1,0 +1,5 @@
+/* As stdint.h beside it. */
+#pragma once
+#define bool _Bool
+#define true 1
+#define false 0

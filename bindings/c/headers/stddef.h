@@ -1,0 +1,4 @@
+/* As stdint.h beside it. */
+#pragma once
+typedef __SIZE_TYPE__ size_t;
+
