@@ -1,6 +1,7 @@
-/* zlf.h: reading ZLF traces, by the static library `capi` (rt staticlib capi writes target/staticlib/libcapi.a, for x86-64).
+/* zlf.h: reading ZLF traces, by the static library `zlf` (bindings/library writes target/staticlib/libzlf.a, for x86-64).
  *
- * Every function is proved to answer what the project's definitions say, for every input; crates/capi/src has the promises.
+ * Every function is proved to answer what the project's definitions say, for every input: the promises are in src/ of crates/capi_frames,
+ * capi_records, capi_seeks and capi_pages.
  *
  * What is passed
  *   kinds   256 bytes: entry e is the kind of the end byte e: 0 unknown, 1 PTI, 2 PTI diagnostic, 3 Zniffer, 4 another known type; an

@@ -1,4 +1,4 @@
-//! Tells cargo where `rt staticlib capi` leaves the library: target/staticlib of the repository, or the folder that ZLF_LIB names.
+//! Tells cargo where `bindings/library` leaves libzlf.a: target/staticlib of the repository, or the folder that ZLF_LIB names.
 fn main() {
     println!("cargo:rerun-if-env-changed=ZLF_LIB");
     let beside = concat!(env!("CARGO_MANIFEST_DIR"), "/../../target/staticlib");

@@ -192,7 +192,7 @@ pub struct zlf_parsed {
     pub payload: [u8; 255],
 }
 
-#[link(name = "capi", kind = "static")]
+#[link(name = "zlf", kind = "static")]
 unsafe extern "C" {
     pub fn zlf_open(trace: *const u8, len: usize, version: u32) -> zlf_opening;
     pub fn zlf_open_sequence(trace: *const u8, len: usize, version: u32) -> zlf_sequence;

@@ -10,10 +10,10 @@ use mathlib.Core.List.{List}
 use mathlib.Core.Option.{none}
 use mathlib.Core.Path.{_≡_}
 use Rattle.layout.specs.Layout.{headerSize, traceLimit}
-use Rattle.resync.specs.Record.{Limits, nextAt}
+use Rattle.record.specs.Record.{Limits, nextAt}
 use Rattle.rows.specs.Rows.{rowsAt}
-use Rattle.cursor.specs.Seam.{seamAt}
-use Rattle.cursor.specs.Page.{PageGiven, pageAt}
+use Rattle.seam.specs.Seam.{seamAt}
+use Rattle.paging.specs.Page.{PageGiven, pageAt}
 use Rattle.cursor.specs.Reading.{Read, Comes, joined, bare, rowsFrom}
 use Rattle.cursor.proofs.Whole.{demanded}
 

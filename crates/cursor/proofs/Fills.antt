@@ -1,17 +1,22 @@
 -- What the loop of `fill` does to the list, and that n turns from the start give what the contract says. Plain lists: nothing of the machine.
 --     goes k s t i at zs   t more turns, from index i, at the place at and the list zs
 --     goes-is              n turns from index 0: the n rows before what is left of the list
+--     answered             what the rows of a page's plan, so written, make of the table is the page's answer
 -- Assumes nothing.
 use mathlib.Core.Path.{_≡_, refl, sym, _∙_, ap}
 use Prim.Native.Nat.{ℕ, zero, suc, _+_, _≤_}
 use native.Mathlib.Nat.{not-suc-le-zero, le-of-suc-le-suc}
 use mathlib.Core.List.{List, [], _∷_, _++_, append-assoc}
 use lib.ListN.{length, set, drop, length-append}
-use Rattle.resync.specs.Record.{plausible}
+use Rattle.record.specs.Record.{plausible}
 use Rattle.rows.specs.declared.Row.{Row}
-use Rattle.cursor.specs.declared.Place.{Place}
-use Rattle.cursor.specs.declared.Step.{Step}
-use Rattle.cursor.specs.Step.{stepOf, rowsOf}
+use Rattle.steps.specs.declared.Place.{Place}
+use Rattle.steps.specs.declared.Step.{Step}
+use Rattle.paging.specs.Page.{PageGiven}
+use Rattle.steps.specs.Step.{stepOf, rowsOf}
+use Rattle.paging.specs.Plan.{Planned}
+use Rattle.paging.specs.declared.Plan.{Plan}
+use Rattle.cursor.specs.Table.{Answered}
 
 abbrev pub goes : List ℕ → List ℕ → ℕ → ℕ → Place → List Row → List Row
 goes k s zero i at zs = zs
@@ -35,3 +40,9 @@ goes-app k s (suc t) xs at (z ∷ zs) h =
 
 pub goes-is : (k s : List ℕ) (n : ℕ) (at : Place) (ys : List Row) → n ≤ length ys → goes k s n 0 at ys ≡ rowsOf plausible k s at n ++ drop n ys
 goes-is k s n at ys h = goes-app k s n [] at ys h
+
+-- what the plan's rows, written, make of the table
+pub answered : (kinds s : List ℕ) (room : ℕ) (given : PageGiven) (p : Plan) (before after : List Row) → Planned plausible kinds s room given p
+    → after ≡ rowsOf plausible kinds s (p .place) (p .rows) ++ drop (p .rows) before → Answered given (p .page) before after
+answered kinds s room given p before after plan e =
+    record { told = plan .told; rows = e ∙ rw (plan .rows) (ap (λ (k : ℕ). given .rows ++ drop k before) (plan .number)) }

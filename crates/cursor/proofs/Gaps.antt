@@ -1,5 +1,4 @@
--- The gaps of a page: the first row's counts from the time before, and is 0 with none given; every other's is the difference to the row before.
--- And gaps aside the rows of a record are its rows. Assumes nothing.
+-- The gaps of a page: the first row's counts from the time before, and is 0 with none given; every other's is the difference to the row before. Assumes nothing.
 use Prim.Native.Nat.{ℕ, zero, suc, _+_, _≤_, _<_}
 use lib.Dec.{ltb, eqb}
 use lib.IntN.{ℤ, pos, _-ℤ_}
@@ -13,8 +12,9 @@ use native.Mathlib.Omega.{arith}
 use Rattle.choice.proofs.Choice.{by-choice}
 use Rattle.resync.specs.Search.{SearchTold, searched, defaultWindow}
 use Rattle.rows.specs.declared.Row.{Row}
-use Rattle.cursor.specs.Page.{withGap, gapOf, gapped, Taken, taken, PageGiven, withNone, lentTo, pageOf, pageFrom}
-use Rattle.cursor.specs.Step.{blankRow}
+use Rattle.paging.proofs.Pages.{length-gapped}
+use Rattle.paging.specs.Page.{withGap, gapped, Taken, taken, PageGiven, withNone, lentTo, pageOf, pageFrom}
+use Rattle.steps.specs.Step.{gapOf, blankRow}
 
 -- the gaps of some rows, with the time before them
 pub record Gaps (before : Option ℤ) (rows : List Row) : Type 0 where
@@ -32,11 +32,6 @@ each before [] i h = absurd (omega arith)
 each before (r ∷ []) i h = absurd (omega arith)
 each before (r ∷ (q ∷ rs)) zero h = refl
 each before (r ∷ (q ∷ rs)) (suc i) h = each (some (r .millis)) (q ∷ rs) i (omega arith)
-
-pub length-gapped : (before : Option ℤ) (rows : List Row) → length (gapped before rows) ≡ length rows
-unfolding gapped
-length-gapped before [] = refl
-length-gapped before (r ∷ rs) = ap suc (length-gapped (some (r .millis)) rs)
 
 first-of : (before : Option ℤ) (rows : List Row) → 0 < length (gapped before rows) → getD (gapped before rows) 0 blankRow .gap ≡ gapOf before (getD (gapped before rows) 0 blankRow .millis)
 unfolding gapped

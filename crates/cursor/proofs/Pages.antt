@@ -12,14 +12,15 @@ use mathlib.Core.Path.{_≡_, refl, sym, ap, subst, _∙_}
 use native.Mathlib.Omega.{arith}
 use Rattle.choice.proofs.Choice.{either}
 use Rattle.layout.specs.Layout.{headerSize, traceLimit}
-use Rattle.resync.proofs.Chain.{Steps}
+use Rattle.record.proofs.Steps.{Steps}
 use Rattle.resync.specs.Search.{SearchTold, searched, found, nothing, defaultWindow}
 use Rattle.rows.specs.declared.Row.{Row}
-use Rattle.cursor.specs.Seam.{Unbroken, ends, more}
-use Rattle.cursor.specs.Page.{withGap, gapOf, gapped, Taken, none-taken, with-record, takenAt, taken, PageTold, PageGiven, goingOn, lastPage, pageRefused, withNone, nextTold, lentTo, pageOf, pageFrom}
+use Rattle.seam.specs.Seam.{Unbroken, ends, more}
+use Rattle.paging.specs.Page.{withGap, gapped, Taken, none-taken, with-record, takenAt, taken, PageTold, PageGiven, goingOn, lastPage, pageRefused, withNone, nextTold, lentTo, pageOf, pageFrom}
 use Rattle.cursor.specs.Reading.{Read, last, more as further, joined, bare, rowsFrom}
-use Rattle.cursor.proofs.Walks.{past-end, stopped, goes-on}
-use Rattle.cursor.proofs.Boundaries.{unbroken-inside, finds, finds-none}
+use Rattle.seam.proofs.Walks.{past-end, stopped, goes-on}
+use Rattle.seam.proofs.Boundaries.{finds, finds-none}
+use Rattle.paging.proofs.Pages.{taken-stops, taken-on}
 
 -- gaps aside
 pub bare-append : (xs ys : List Row) → bare (xs ++ ys) ≡ bare xs ++ bare ys
@@ -33,14 +34,6 @@ bare-gapped before [] = refl
 bare-gapped before (r ∷ rs) = ap (λ (l : List Row). withGap (pos 0) r ∷ l) (bare-gapped (some (r .millis)) rs)
 
 module _ (next : ℕ → Option ℕ) (rows : ℕ → List Row) (n : ℕ) (steps : Steps next n) where
-  pub taken-stops : (at count : ℕ) → next at ≡ none → taken next rows n at count ≡ none-taken at
-  unfolding taken
-  taken-stops at count e = ap (λ (f : ℕ → Taken). f count) (stopped next n steps (λ (end : ℕ) (wanted : ℕ). none-taken end) (takenAt rows) n at e)
-
-  pub taken-on : (at m count : ℕ) → next at ≡ some m → taken next rows n at count ≡ takenAt rows at (taken next rows n m) count
-  unfolding taken
-  taken-on at m count e = ap (λ (f : ℕ → Taken). f count) (goes-on next n steps (λ (end : ℕ) (wanted : ℕ). none-taken end) (takenAt rows) at m e)
-
   pub rows-stop : (at : ℕ) → next at ≡ none → rowsFrom next rows n at ≡ []
   unfolding rowsFrom
   rows-stop at e = stopped next n steps (λ (end : ℕ). []) (λ (here : ℕ) (rest : List Row). rows here ++ rest) n at e
@@ -74,9 +67,9 @@ module _ (next : ℕ → Option ℕ) (rows : ℕ → List Row) (n : ℕ) (steps 
   looser t p = record { left = p .left; fewer = omega (arith, p .fewer); rest = p .rest; further-on = p .further-on; together = p .together }
 
   pub part : {at k : ℕ} → Unbroken next n at k → (count : ℕ) → Part at k (taken next rows n at count)
-  part ends count = rw (taken-stops n count (past-end next n steps n (omega arith))) (part-none ends)
+  part ends count = rw (taken-stops next rows n steps n count (past-end next n steps n (omega arith))) (part-none ends)
   part (more {at} {m} {k} e u) count =
-      rw (taken-on at m count e)
+      rw (taken-on next rows n steps at m count e)
       (either (eqb count 0)
       (λ yes′. rw yes′ (part-none (more e u)))
       (λ no′. rw no′ (looser (with-record (rows at) (taken next rows n m (count - length (rows at)))) (part-record e (taken next rows n m (count - length (rows at))) (part u (count - length (rows at)))))))
@@ -84,7 +77,7 @@ module _ (next : ℕ → Option ℕ) (rows : ℕ → List Row) (n : ℕ) (steps 
   -- with a count of at least 1 the record at the place is taken
   pub part-more : {at m k : ℕ} → next at ≡ some m → Unbroken next n m k → (count : ℕ) → 1 ≤ count → Part at k (taken next rows n at count)
   part-more {at} {m} {k} e u count h =
-      rw (taken-on at m count e) (rw (ne-eqb count 0 (λ z. omega arith))
+      rw (taken-on next rows n steps at m count e) (rw (ne-eqb count 0 (λ z. omega arith))
       (part-record e (taken next rows n m (count - length (rows at))) (part u (count - length (rows at)))))
 
   module _ (before : Option ℤ) (fits : n ≤ traceLimit) where

@@ -12,13 +12,13 @@ use mathlib.Core.Path.{_≡_, refl, sym, ap, subst, _∙_}
 use native.Mathlib.Omega.{arith}
 use Rattle.choice.proofs.Choice.{either}
 use Rattle.layout.specs.Layout.{headerSize, traceLimit}
-use Rattle.resync.proofs.Chain.{Steps}
+use Rattle.record.proofs.Steps.{Steps}
 use Rattle.rows.specs.declared.Row.{Row}
-use Rattle.cursor.specs.Seam.{Unbroken, ends, more}
-use Rattle.cursor.specs.Page.{gapped, Taken, taken, PageTold, PageGiven, goingOn, lastPage, withNone, pageFrom}
+use Rattle.seam.specs.Seam.{Unbroken, ends, more}
+use Rattle.paging.specs.Page.{gapped, Taken, taken, PageTold, PageGiven, goingOn, lastPage, withNone, pageFrom}
 use Rattle.cursor.specs.Reading.{Read, last, more as further, Comes, begins, onward, joined, bare, rowsFrom}
-use Rattle.cursor.proofs.Walks.{past-end}
-use Rattle.cursor.proofs.Boundaries.{unbroken-inside}
+use Rattle.seam.proofs.Walks.{past-end}
+use Rattle.seam.proofs.Boundaries.{unbroken-inside}
 use Rattle.cursor.proofs.Pages.{bare-append, bare-gapped, rows-stop, Part, part-more, page-end, page-given}
 
 module _ (next : ℕ → Option ℕ) (rows : ℕ → List Row) (n : ℕ) (steps : Steps next n) (before : Option ℤ) (fits : n ≤ traceLimit) (counts rooms : ℕ → ℕ)

@@ -1,41 +1,27 @@
--- Towards demand 3: from the check's answer to the unbroken stretch, and that the rows of records have no gaps to put aside. Assumes nothing.
+-- Towards demand 3: that the rows of records have no gaps to put aside, and the demand from the check's answer. Assumes nothing.
 use Prim.Native.Nat.{ℕ, suc, _+_, _≤_}
-use lib.Dec.{eqb}
 use lib.IntN.{ℤ, pos}
 use lib.ListN.{length}
-use mathlib.Core.Bool.{Bool, true, false, cond, false≢true}
+use mathlib.Core.Bool.{true, false≢true}
 use mathlib.Core.List.{List, [], _∷_, _++_}
 use mathlib.Core.Option.{Option, none, some}
 use mathlib.Core.Path.{_≡_, refl, sym, ap, subst, _∙_}
 use Rattle.ticks.specs.Ticks.{unixMillis}
 use Rattle.layout.specs.Layout.{headerSize, traceLimit}
 use Rattle.layout.specs.Fields.{ticksAt}
-use Rattle.resync.proofs.Chain.{Steps}
-use Rattle.resync.proofs.Valid.{record-steps}
-use Rattle.resync.specs.Record.{Limits, nextAt}
+use Rattle.record.proofs.Steps.{Steps}
+use Rattle.record.proofs.Valid.{record-steps}
+use Rattle.record.specs.Record.{Limits, nextAt}
 use Rattle.rows.specs.Frames.{Placed}
 use Rattle.rows.specs.Rows.{rowOf, framesAt, numbered, rowsAt}
 use Rattle.rows.specs.declared.Row.{Row}
-use Rattle.cursor.specs.Seam.{Unbroken, Reached, SeamTold, unbrokenWith, brokenAt, reach, seamFrom, seamAt}
-use Rattle.cursor.specs.Page.{withGap, PageGiven, pageAt}
+use Rattle.seam.specs.Seam.{reach, seamAt}
+use Rattle.paging.specs.Page.{withGap, PageGiven, pageAt}
 use Rattle.cursor.specs.Reading.{Read, last, more, Comes, joined, bare, rowsFrom}
-use Rattle.cursor.proofs.Walks.{by-records}
-use Rattle.cursor.proofs.SeamLaws.{is, unbroken-to}
+use Rattle.seam.proofs.Walks.{by-records}
+use Rattle.seam.proofs.SeamLaws.{stretch}
 use Rattle.cursor.proofs.Pages.{bare-append, rows-stop, rows-on}
 use Rattle.cursor.proofs.Readings.{read-all, pages-end}
-
--- the check's answer is one of the two
-unbroken-by : (n : ℕ) (r : Reached) (b : Bool) → cond b (unbrokenWith (r .records)) (brokenAt (r .place) (r .records)) .isUnbroken ≡ true
-    → cond b (unbrokenWith (r .records)) (brokenAt (r .place) (r .records)) ≡ unbrokenWith (r .records)
-unbroken-by n r true e = refl
-unbroken-by n r false e = absurd (false≢true e)
-
-pub stretch : (next : ℕ → Option ℕ) (n : ℕ) → Steps next n → (at : ℕ) → n ≤ traceLimit → headerSize ≤ at → at ≤ n → seamFrom next n at .isUnbroken ≡ true
-    → Unbroken next n at (reach next n at .records)
-stretch next n steps at fits low high e =
-    let r = reach next n at in
-    let told = is next n steps at fits low high in
-    unbroken-to next n steps at fits low high (r .records) (told ∙ unbroken-by n r (eqb (r .place) n) (sym (ap (λ (x : SeamTold). x .isUnbroken) told) ∙ e))
 
 -- a record's rows have no gaps
 bare-numbered : (s : List ℕ) (at k : ℕ) (fs : List Placed) → bare (numbered s at k fs) ≡ numbered s at k fs

@@ -1,6 +1,2 @@
-pub mod Walk
-pub mod Opening
-pub mod Seam
-pub mod Page
+pub mod Table
 pub mod Reading
-pub mod Step

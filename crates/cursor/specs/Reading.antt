@@ -6,8 +6,8 @@ use mathlib.Core.List.{List, [], _∷_, _++_, flatMap, map}
 use mathlib.Core.Option.{Option}
 use mathlib.Core.Path.{_≡_}
 use Rattle.rows.specs.declared.Row.{Row}
-use Rattle.cursor.specs.Walk.{walk}
-use Rattle.cursor.specs.Page.{PageGiven, withGap}
+use Rattle.seam.specs.Walk.{walk}
+use Rattle.paging.specs.Page.{PageGiven, withGap}
 
 -- pages read from a place on, of which k were read before: each without a refusal, from the place that the last one named, until none is named
 pub data Read (page : ℕ → ℕ → PageGiven) : ℕ → ℕ → List PageGiven → Type 0 where

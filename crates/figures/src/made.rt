@@ -1,11 +1,24 @@
-// Traces, made in a lent buffer that is all zeros before. Each function takes the place where the free part begins, and gives the place after
-// what it put there.
+// What the figures are run on: bytes, made one part after the other in a lent buffer, and a kind table.
+use crate::line;
+use crate::line::Numbers;
 
-// 01's example has these ticks.
-pub const EXAMPLE: u64 = 630_822_816_000_010_000;
+// How many bytes are made, and the entries 1 to 4 of the kind table as the digits of a number; the others are 0.
+pub struct Made {
+    pub len: usize,
+    pub kinds: u64,
+}
 
-// A number in so many bytes, low byte first.
-pub fn number(s: &mut [u8], at: usize, n: u64, size: usize) -> usize {
+pub fn kinds(entries: u64) -> [u8; 256] {
+    let mut table = [0u8; 256];
+    table[1] = (entries / 1000 % 10) as u8;
+    table[2] = (entries / 100 % 10) as u8;
+    table[3] = (entries / 10 % 10) as u8;
+    table[4] = (entries % 10) as u8;
+    table
+}
+
+// A number in so many bytes, low byte first. Gives the place after it.
+fn number(s: &mut [u8], at: usize, n: u64, size: usize) -> usize {
     let mut next = at;
     let mut left = n;
     let mut i: usize = 0;
@@ -17,93 +30,69 @@ pub fn number(s: &mut [u8], at: usize, n: u64, size: usize) -> usize {
     next
 }
 
-// "header 07 00 00 00 then zeros"
-pub fn header(s: &mut [u8]) -> usize {
-    number(s, 0, 7, 4);
-    2048
+// What stands before a record's payload: ticks, properties, length.
+fn head(s: &mut [u8], at: usize, n: Numbers) -> usize {
+    let after_ticks = number(s, at, n.a, 8);
+    let after_properties = number(s, after_ticks, n.b, 1);
+    number(s, after_properties, n.c, 4)
 }
 
-// What stands before a record's payload.
-pub fn head(s: &mut [u8], at: usize, ticks: u64, properties: u8, length: u64) -> usize {
-    let after_ticks = number(s, at, ticks, 8);
-    let after_properties = text::put_byte(s, after_ticks, properties);
-    number(s, after_properties, length, 4)
+// The bytes that a line has in hexadecimal.
+fn bytes(s: &mut [u8], at: usize, command: &[u8]) -> usize {
+    let mut next = at;
+    let mut i: usize = 0;
+    while i < command.len() / 3 {
+        next = text::put_byte(s, next, line::byte(command, i));
+        i += 1;
+    }
+    next
 }
 
-pub fn record(s: &mut [u8], at: usize, ticks: u64, payload: &[u8], end: u8) -> usize {
-    let start = head(s, at, ticks, 0, payload.len() as u64);
-    let after = text::put_text(s, start, payload);
-    text::put_byte(s, after, end)
+// The bytes from so far back, over and over, so many in all.
+fn again(s: &mut [u8], at: usize, back: usize, count: usize) -> usize {
+    let mut next = at;
+    let mut i: usize = 0;
+    while i < count {
+        let b = layout::u8_at(s, std::num::wrapping_sub_usize(next, back));
+        next = text::put_byte(s, next, b);
+        i += 1;
+    }
+    next
 }
 
-// "payload 5B 16 00 02, ten 00, F8 AA BB F9 C4 01 01 06 00 5D"
-pub fn payload() -> [u8; 24] {
-    [
-        0x5B,
-        0x16,
-        0x00,
-        0x02,
-        0,
-        0,
-        0,
-        0,
-        0,
-        0,
-        0,
-        0,
-        0,
-        0,
-        0xF8,
-        0xAA,
-        0xBB,
-        0xF9,
-        0xC4,
-        0x01,
-        0x01,
-        0x06,
-        0x00,
-        0x5D,
-    ]
+// The header's sum: "over bytes 0 to 2,045, stored low byte first at 2,046".
+fn seal(s: &mut [u8]) {
+    let n = checksum::header_sum(part(s, 2046));
+    number(s, 2046, n as u64, 2);
 }
 
-// "one record at 2,048 (ticks 630822816000010000, properties 0, length 24, end byte 01)": 38 bytes.
-pub fn example(s: &mut [u8], at: usize, ticks: u64) -> usize {
-    record(s, at, ticks, &payload(), 1)
+// How many bytes are made after a line.
+fn grown(letter: u8, command: &[u8], n: Numbers, s: &mut [u8], len: usize) -> usize {
+    match letter {
+        b'+' => bytes(s, len, command),
+        b'z' => number(s, len, 0, n.c as usize),
+        b'h' => head(s, len, n),
+        b'a' => again(s, len, n.b as usize, n.c as usize),
+        b'l' => n.c as usize,
+        _ => len,
+    }
 }
 
-// The example's trace.
-pub fn one() -> [u8; 2086] {
-    let mut s = [0u8; 2086];
-    let start = header(&mut s);
-    example(&mut s, start, EXAMPLE);
-    s
-}
-
-// "Three copies of that record, then 20 zero bytes"
-pub fn three() -> [u8; 2182] {
-    let mut s = [0u8; 2182];
-    let start = header(&mut s);
-    let second = example(&mut s, start, EXAMPLE);
-    let third = example(&mut s, second, EXAMPLE);
-    example(&mut s, third, EXAMPLE);
-    s
-}
-
-// "kinds all 0 but entry 1 = 1"
-pub fn kinds() -> [u8; 256] {
-    let mut table = [0u8; 256];
-    table[1] = 1;
-    table
-}
-
-// Entries 1 to 4 are the kinds 1 to 4.
-pub fn all_kinds() -> [u8; 256] {
-    let mut table = [0u8; 256];
-    table[1] = 1;
-    table[2] = 2;
-    table[3] = 3;
-    table[4] = 4;
-    table
+pub fn make(letter: u8, command: &[u8], n: Numbers, s: &mut [u8], m: Made) -> Made {
+    if letter == b'k' {
+        return Made {
+            len: m.len,
+            kinds: n.c,
+        };
+    }
+    if letter == b's' {
+        seal(s);
+        return m;
+    }
+    Made {
+        len: grown(letter, command, n, s, m.len),
+        kinds: m.kinds,
+    }
 }
 
 // The first bytes.

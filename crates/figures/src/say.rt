@@ -1,73 +1,83 @@
-// The lines: a name, what came out as fields with a space before each, and the line's end.
+// What is printed: fields with a space before each.
+use crate::made;
 use libc::STDOUT_FILENO;
 
-// A space, and a number.
-pub fn field(out: &mut [u8], at: usize, n: u64) -> usize {
-    let next = text::put_byte(out, at, b' ');
-    text::put_decimal(out, next, n)
+pub fn text(t: &[u8]) {
+    io::write_all(STDOUT_FILENO, t);
 }
 
-pub fn signed(out: &mut [u8], at: usize, z: i64) -> usize {
-    let next = text::put_byte(out, at, b' ');
-    text::put_signed(out, next, z)
+pub fn end() {
+    text(b"\n");
 }
 
-// A space, and some bytes in hexadecimal.
-pub fn hex(out: &mut [u8], at: usize, bytes: &[u8]) -> usize {
-    let next = text::put_byte(out, at, b' ');
-    text::put_hex(out, next, bytes)
+// A number.
+pub fn field(n: u64) {
+    text(b" ");
+    io::print_decimal(STDOUT_FILENO, n);
+}
+
+pub fn fields(a: u64, b: u64) {
+    field(a);
+    field(b);
+}
+
+pub fn signed(z: i64) {
+    if z < 0 {
+        text(b" -");
+        io::print_decimal(STDOUT_FILENO, text::magnitude(z));
+        return;
+    }
+    field(text::magnitude(z));
+}
+
+// Bytes in hexadecimal, or - where there is none.
+pub fn hex(bytes: &[u8]) {
+    if bytes.len() == 0 {
+        return text(b" -");
+    }
+    let mut digits = [0u8; 512];
+    let n = text::put_hex(&mut digits, 0, bytes);
+    text(b" ");
+    text(made::part(&digits, n));
+}
+
+// A letter, and a number.
+pub fn letter(l: u8, n: u64) {
+    let word = [b' ', l];
+    text(&word);
+    field(n);
 }
 
 // What is said of nothing found, of yes and of no.
-pub fn none(out: &mut [u8], at: usize) -> usize {
-    text::put_text(out, at, b" none")
+pub fn none() {
+    text(b" none");
 }
 
-pub fn whether(out: &mut [u8], at: usize, yes: bool) -> usize {
+pub fn whether(yes: bool) {
     if yes {
-        return text::put_text(out, at, b" yes");
+        return text(b" yes");
     }
-    text::put_text(out, at, b" no")
+    text(b" no");
 }
 
-// A refusal's number.
-pub fn refusal(out: &mut [u8], at: usize, n: u64) -> usize {
-    let next = text::put_text(out, at, b" R");
-    field(out, next, n)
+// Three bytes, as numbers.
+pub fn three(a: u8, b: u8, c: u8) {
+    field(a as u64);
+    field(b as u64);
+    field(c as u64);
 }
 
-pub fn end(out: &mut [u8], at: usize) -> usize {
-    text::put_byte(out, at, b'\n')
+// What a row and a PTI frame end with: RSSI, beam count, MPDU place and length.
+pub fn heard(rssi: i8, beams: u16, mpdu: usize, len: usize) {
+    signed(from_i8(rssi));
+    field(beams as u64);
+    fields(mpdu as u64, len as u64);
 }
 
-// A line of one number.
-pub fn line(out: &mut [u8], at: usize, name: &[u8], n: u64) -> usize {
-    let next = text::put_text(out, at, name);
-    let after = field(out, next, n);
-    end(out, after)
-}
-
-pub fn signed_line(out: &mut [u8], at: usize, name: &[u8], z: i64) -> usize {
-    let next = text::put_text(out, at, name);
-    let after = signed(out, next, z);
-    end(out, after)
-}
-
-pub fn wide(x: u8) -> u64 {
-    x as u64
-}
-
-pub fn from_i8(x: i8) -> i64 {
+fn from_i8(x: i8) -> i64 {
     x as i64
 }
 
 pub fn from_i32(x: i32) -> i64 {
     x as i64
-}
-
-// Writes what is gathered.
-pub fn write(out: &[u8], at: usize) {
-    if at <= out.len() {
-        io::write_all(STDOUT_FILENO, &out[..at]);
-    }
 }

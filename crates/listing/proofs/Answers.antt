@@ -8,13 +8,13 @@ use native.Mathlib.Omega.{arith}
 use borrow.Author.Tests.{le-leb, lt-leb, ne-eqb}
 use Rattle.io.specs.Counts.{Counts}
 use Rattle.layout.specs.Layout.{leAt}
-use Rattle.resync.specs.Record.{plausible}
+use Rattle.record.specs.Record.{plausible}
 use Rattle.resync.specs.Search.{SearchTold, found, nothing}
-use Rattle.cursor.specs.Opening.{OpeningTold, openingTold}
-use Rattle.cursor.specs.Seam.{SeamTold, seamAt}
+use Rattle.seam.specs.Opening.{OpeningTold, openingTold}
+use Rattle.seam.specs.Seam.{SeamTold, seamAt}
 use Rattle.text.specs.Put.{Put}
 use Rattle.text.proofs.Puts.{inside}
-use Rattle.listing.specs.Lines.{refusalText, versionText, noneText}
+use Rattle.lines.specs.Lines.{refusalText, versionText, noneText}
 use Rattle.listing.specs.Listing.{seamLine, seamFound, openedText, traceText, listText}
 
 module _ (kinds s : List ℕ) (t : SearchTold) where

@@ -14,12 +14,13 @@ use native.Mathlib.Omega.{arith}
 use Rattle.choice.proofs.Choice.{by-choice}
 use Rattle.resync.specs.Search.{searched, defaultWindow}
 use Rattle.rows.specs.declared.Row.{Row}
-use Rattle.cursor.specs.Page.{Taken, taken, gapped, PageTold, PageGiven, nextTold, goingOn, withNone, pageRefused, lentTo, pageFrom, Answered, toldPage}
-use Rattle.cursor.specs.declared.Page.{Page}
-use Rattle.cursor.specs.declared.Page.the-variants.{More, Last, TraceTooLong, WindowTooLong, TableTooShort}
-use Rattle.cursor.proofs.Page.{the-type}
-use Rattle.cursor.proofs.Gaps.{length-gapped}
-use Rattle.listing.specs.Lines.{rowText}
+use Rattle.paging.specs.Page.{Taken, taken, gapped, PageTold, PageGiven, nextTold, goingOn, withNone, pageRefused, lentTo, pageFrom, toldPage}
+use Rattle.cursor.specs.Table.{Answered}
+use Rattle.paging.specs.declared.Page.{Page}
+use Rattle.paging.specs.declared.Page.the-variants.{More, Last, TraceTooLong, WindowTooLong, TableTooShort}
+use Rattle.paging.proofs.Page.{the-type}
+use Rattle.paging.proofs.Pages.{length-gapped}
+use Rattle.lines.specs.Lines.{rowText}
 use Rattle.listing.specs.Listing.{rowsText, pagesText}
 
 -- the size told is the number of rows

@@ -12,18 +12,19 @@ use native.Mathlib.Omega.{arith}
 use borrow.Author.Tests.{ltb-true}
 use Rattle.choice.proofs.Choice.{by-choice}
 use Rattle.layout.specs.Layout.{headerSize}
-use Rattle.resync.specs.Record.{plausible, nextAt}
+use Rattle.record.specs.Record.{plausible, nextAt}
 use Rattle.resync.specs.Search.{searched, defaultWindow}
-use Rattle.resync.proofs.Chain.{Steps, boundary-record}
+use Rattle.record.proofs.Steps.{Steps}
+use Rattle.resync.proofs.Chain.{boundary-record}
 use Rattle.resync.proofs.Found.{FoundFirst, found-is}
-use Rattle.resync.proofs.Valid.{record-steps}
+use Rattle.record.proofs.Valid.{record-steps}
 use Rattle.rows.specs.Rows.{rowsAt}
 use Rattle.rows.specs.declared.Row.{Row}
-use Rattle.cursor.specs.Page.{Taken, taken, none-taken, with-record, gapped, PageTold, PageGiven, nextTold, goingOn, lastPage, withNone, pageRefused, lentTo, pageFrom}
+use Rattle.paging.specs.Page.{Taken, taken, none-taken, with-record, gapped, PageTold, PageGiven, nextTold, goingOn, lastPage, withNone, pageRefused, lentTo, pageFrom}
 use Rattle.cursor.specs.Reading.{Read, last, more, joined}
-use Rattle.cursor.proofs.Pages.{taken-stops, taken-on}
-use Rattle.cursor.proofs.Walks.{by-records}
-use Rattle.listing.specs.Lines.{rowText}
+use Rattle.paging.proofs.Pages.{taken-stops, taken-on}
+use Rattle.seam.proofs.Walks.{by-records}
+use Rattle.lines.specs.Lines.{rowText}
 use Rattle.listing.specs.Listing.{rowsText, pageOf, pagesText}
 
 -- a page that names a next place names a later one, before the end

@@ -7,12 +7,12 @@ use mathlib.Core.List.{List, [], _++_, flatMap}
 use mathlib.Core.Option.{none}
 use Rattle.layout.specs.Layout.{leAt, headerSize}
 use Rattle.rows.specs.declared.Row.{Row}
-use Rattle.resync.specs.Record.{plausible}
+use Rattle.record.specs.Record.{plausible}
 use Rattle.resync.specs.Search.{SearchTold, searchFrom, defaultWindow}
-use Rattle.cursor.specs.Opening.{OpeningTold, openingOf}
-use Rattle.cursor.specs.Page.{PageGiven, pageAt}
-use Rattle.cursor.specs.Seam.{SeamTold, seamAt}
-use Rattle.listing.specs.Lines.{rowText, refusalText, versionText, unbrokenText, brokenText, noneText}
+use Rattle.seam.specs.Opening.{OpeningTold, openingOf}
+use Rattle.paging.specs.Page.{PageGiven, pageAt}
+use Rattle.seam.specs.Seam.{SeamTold, seamAt}
+use Rattle.lines.specs.Lines.{rowText, refusalText, versionText, unbrokenText, brokenText, noneText}
 
 -- 01: "pages of 64 .. into a table of 600 rows"
 abbrev pub pageOf : List ℕ → List ℕ → ℕ → PageGiven

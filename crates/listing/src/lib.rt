@@ -1,24 +1,23 @@
 // The list of a trace as text: what the program trace-list writes for its input. Each function takes the place of the buffer where
 // its text goes, and gives the place after it.
-use cursor::Opening;
-use cursor::Page;
-use cursor::Seam;
 use cursor::Table;
 use layout::ZLF_HEADER_SIZE;
+use paging::Page;
 use resync::DEFAULT_WINDOW;
 use resync::Search;
 use rows::Row;
-ghost use mathlib.Core.List.{[], _∷_, _++_, flatMap};
+use seam::Opening;
+use seam::Seam;
+ghost use mathlib.Core.List.{_++_, flatMap};
 ghost use mathlib.Core.Path.{_≡_};
 ghost use Prim.Native.Nat.{_≤_};
 ghost use lib.ListN.{length, take};
 ghost use Rattle.io.specs.Counts.{Counts};
 ghost use Rattle.layout.specs.Layout.{headerSize};
-ghost use Rattle.cursor.specs.Page.{toldPage};
-ghost use Rattle.cursor.specs.Seam.{toldSeam};
+ghost use Rattle.paging.specs.Page.{toldPage};
+ghost use Rattle.seam.specs.Seam.{toldSeam};
 ghost use Rattle.text.specs.Put.{Put};
-ghost use Rattle.text.specs.Texts.{decimalText, signedText};
-ghost use Rattle.listing.specs.Lines.{Fields, lineText, rowText, refusalText, versionText, unbrokenText, brokenText, sideOf, originFields, radioFields, mpduFields};
+ghost use Rattle.lines.specs.Lines.{rowText, refusalText, versionText, unbrokenText, brokenText};
 ghost use Rattle.listing.specs.Listing.{listText, traceText, rowsText, pagesText, pageOf, seamText, seamLine};
 
 // The kinds, one to an end byte, and the version that stand before the trace.
@@ -32,103 +31,17 @@ const MOST: usize = 8192;
 // Rows that a page has at least, where there are so many.
 const PAGE: usize = 64;
 
-// A space, and a number.
-fn put_field(out: &mut [u8], at: usize, n: u64) -> usize
-    ensures { λ r. ⌜ Fields (decimalText n ∷ []) (now (out .entry)) at (now (out .exit)) r ⌝ }
-{
-    let next = text::put_byte(out, at, b' ');
-    text::put_decimal(out, next, n)
-}
-
-// A space, and a number with its sign.
-fn put_signed_field(out: &mut [u8], at: usize, z: i64) -> usize
-    ensures { λ r. ⌜ Fields (signedText z ∷ []) (now (out .entry)) at (now (out .exit)) r ⌝ }
-{
-    let next = text::put_byte(out, at, b' ');
-    text::put_signed(out, next, z)
-}
-
-// A letter, a number, and the line's end.
-fn put_line(out: &mut [u8], at: usize, letter: u8, n: u64) -> usize
-    ensures { λ r. ⌜ Put (lineText letter (decimalText n ∷ [])) (now (out .entry)) at (now (out .exit)) r ⌝ }
-{
-    let next = text::put_byte(out, at, letter);
-    let end = put_field(out, next, n);
-    text::put_byte(out, end, b'\n')
-}
-
 // A refusal's line, which is all that is said then.
 fn refusal_line(out: &mut [u8], at: usize, n: u64) -> usize
     ensures { λ r. ⌜ Put (refusalText n) (now (out .entry)) at (now (out .exit)) r ⌝ }
 {
-    put_line(out, at, b'R', n)
+    lines::put_line(out, at, b'R', n)
 }
 
 fn version_line(out: &mut [u8], at: usize, version: u32) -> usize
     ensures { λ r. ⌜ Put (versionText version) (now (out .entry)) at (now (out .exit)) r ⌝ }
 {
-    put_line(out, at, b'V', version as u64)
-}
-
-fn wide(x: u8) -> u64
-    ensures { λ r. ⌜ r ≡ x ⌝ }
-{
-    x as u64
-}
-
-fn signed(x: i8) -> i64
-    ensures { λ r. ⌜ r ≡ x ⌝ }
-{
-    x as i64
-}
-
-// The letter of a direction.
-fn side(direction: u8) -> u8
-    ensures { λ r. ⌜ r ≡ sideOf direction ⌝ }
-{
-    if direction == 0 { b'R' } else { b'T' }
-}
-
-// Where a row stands: its record, its position, its time and its gap.
-fn put_origin(out: &mut [u8], at: usize, r: Row) -> usize
-    ensures { λ p. ⌜ Fields (originFields r) (now (out .entry)) at (now (out .exit)) p ⌝ }
-{
-    let record = put_field(out, at, r.record as u64);
-    let position = put_field(out, record, r.position as u64);
-    let millis = put_signed_field(out, position, r.millis);
-    put_signed_field(out, millis, r.gap)
-}
-
-// How it was sent: its direction, region, channel and speed.
-fn put_radio(out: &mut [u8], at: usize, r: Row) -> usize
-    ensures { λ p. ⌜ Fields (radioFields r) (now (out .entry)) at (now (out .exit)) p ⌝ }
-{
-    let space = text::put_byte(out, at, b' ');
-    let direction = text::put_byte(out, space, side(r.direction));
-    let region = put_field(out, direction, wide(r.region));
-    let channel = put_field(out, region, wide(r.channel));
-    put_field(out, channel, wide(r.speed))
-}
-
-// Its RSSI, its beams, and its MPDU's place and length.
-fn put_mpdu(out: &mut [u8], at: usize, r: Row) -> usize
-    ensures { λ p. ⌜ Fields (mpduFields r) (now (out .entry)) at (now (out .exit)) p ⌝ }
-{
-    let rssi = put_signed_field(out, at, signed(r.rssi));
-    let beams = put_field(out, rssi, r.beam_count as u64);
-    let mpdu = put_field(out, beams, r.mpdu as u64);
-    put_field(out, mpdu, r.mpdu_len as u64)
-}
-
-// A row's line.
-pub fn row_line(out: &mut [u8], at: usize, r: Row) -> usize
-    ensures { λ p. ⌜ Put (rowText r) (now (out .entry)) at (now (out .exit)) p ⌝ }
-{
-    let letter = text::put_byte(out, at, b'F');
-    let origin = put_origin(out, letter, r);
-    let radio = put_radio(out, origin, r);
-    let mpdu = put_mpdu(out, radio, r);
-    text::put_byte(out, mpdu, b'\n')
+    lines::put_line(out, at, b'V', version as u64)
 }
 
 // The lines of the first n rows of a table.
@@ -142,7 +55,7 @@ fn row_lines(out: &mut [u8], at: usize, rows: [Row; 600], n: usize) -> usize
             return next;
         }
         let r = rows[i];
-        next = row_line(out, next, r);
+        next = lines::row_line(out, next, r);
         i += 1;
     }
     next
@@ -153,8 +66,8 @@ fn put_unbroken(out: &mut [u8], at: usize, place: usize, records: usize) -> usiz
     ensures { λ r. ⌜ Put (unbrokenText place records) (now (out .entry)) at (now (out .exit)) r ⌝ }
 {
     let letter = text::put_byte(out, at, b'U');
-    let from = put_field(out, letter, place as u64);
-    let count = put_field(out, from, records as u64);
+    let from = lines::put_field(out, letter, place as u64);
+    let count = lines::put_field(out, from, records as u64);
     text::put_byte(out, count, b'\n')
 }
 
@@ -162,9 +75,9 @@ fn put_broken(out: &mut [u8], at: usize, place: usize, stop: usize, records: usi
     ensures { λ r. ⌜ Put (brokenText place stop records) (now (out .entry)) at (now (out .exit)) r ⌝ }
 {
     let letter = text::put_byte(out, at, b'B');
-    let from = put_field(out, letter, place as u64);
-    let to = put_field(out, from, stop as u64);
-    let count = put_field(out, to, records as u64);
+    let from = lines::put_field(out, letter, place as u64);
+    let to = lines::put_field(out, from, stop as u64);
+    let count = lines::put_field(out, to, records as u64);
     text::put_byte(out, count, b'\n')
 }
 
@@ -191,7 +104,7 @@ fn seam_line(out: &mut [u8], at: usize, kinds: &[u8; 256], s: &[u8]) -> usize
             out,
             at,
             offset,
-            cursor::seam_check(kinds, s, offset),
+            seam::seam_check(kinds, s, offset),
         ),
         Search::Nothing { judged: _ } => text::put_text(out, at, b"N\n"),
         Search::TraceTooLong => refusal_line(out, at, 1),
@@ -265,7 +178,7 @@ fn put_pages(out: &mut [u8], at: usize, kinds: &[u8; 256], s: &[u8]) -> usize
 fn list_trace(out: &mut [u8], kinds: &[u8; 256], s: &[u8], version: u32) -> usize
     ensures { λ r. ⌜ Put (traceText (now (kinds .entry)) version (now (s .entry))) (now (out .entry)) 0 (now (out .exit)) r ⌝ }
 {
-    match cursor::open(s, version) {
+    match seam::open(s, version) {
         Opening::Opened { version: found } => {
             let next = version_line(out, 0, found);
             put_pages(out, next, kinds, s)

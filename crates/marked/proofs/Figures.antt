@@ -1,7 +1,7 @@
 -- Every figure that document 01 marks P holds: one statement over the list of them, by computation. Assumes nothing.
 use mathlib.Core.Path.{refl}
-use Rattle.pti.specs.Bracket.{good, walk, bodiesFrom}
-use Rattle.pti.specs.Beam.{starts, repeats, beamCount}
+use Rattle.bracket.specs.Bracket.{good, walk, bodiesFrom}
+use Rattle.beam.specs.Beam.{starts, repeats, beamCount}
 use Rattle.speed.specs.Speed.{among, speedFor}
 use Rattle.zniffer_core.specs.Run.{coreStepOf}
 use Rattle.zniffer.specs.Parse.{zeros, stepOf, runFrom}

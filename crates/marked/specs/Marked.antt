@@ -5,10 +5,10 @@ use lib.ListN.{length, take, drop}
 use mathlib.Core.Bool.{Bool, true, false}
 use mathlib.Core.List.{List, [], _∷_, map}
 use mathlib.Core.Path.{_≡_}
-use Rattle.resync.specs.Record.{lengthIn}
+use Rattle.record.specs.Record.{lengthIn}
 use Rattle.ticks.specs.Ticks.{unixMillis}
-use Rattle.pti.specs.Bracket.{Piece, bodies}
-use Rattle.pti.specs.Beam.{beamCount}
+use Rattle.bracket.specs.Bracket.{Piece, bodies}
+use Rattle.beam.specs.Beam.{beamCount}
 use Rattle.speed.specs.Speed.{speedFor}
 use Rattle.zniffer_numbers.specs.declared.ParserResult.{ParserResult}
 use Rattle.zniffer_numbers.specs.declared.ParserResult.the-variants.{ValidFrame}

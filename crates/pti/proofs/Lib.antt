@@ -1,11 +1,5 @@
-pub mod Walks
-pub mod Steps
-pub mod Starts
-pub mod Beats
 pub mod Mpdu
 pub mod Parts
 pub mod Shapes
-pub mod Marker
-pub mod Splitting
 pub mod Mpdus
 pub mod Figures

@@ -8,7 +8,7 @@ use mathlib.Core.List.{List}
 use mir.Syntax.{w8}
 use mir.Val.{toZ}
 use Rattle.speed.specs.Speed.{speedFor}
-use Rattle.pti.specs.Beam.{beamCount}
+use Rattle.beam.specs.Beam.{beamCount}
 use Rattle.pti.specs.declared.PtiFrame.{PtiFrame}
 use Rattle.pti.specs.declared.Parsed.{Parsed}
 use Rattle.pti.specs.declared.Parsed.the-variants.{Frame, Nothing}

@@ -1,20 +1,13 @@
-// Bracket records, PTI frames and beams: pti/mod.rs.
+// PTI frames: pti/mod.rs.
 //
-// A ZLF payload of kind PTI holds bracket records; the body of each may hold one Z-Wave frame. Nothing is copied: a body is a place and a
-// length in the payload, and a frame's MPDU a place and a length in the body.
+// The body of a bracket record may hold one Z-Wave frame. Nothing is copied: a frame's MPDU is a place and a length in the body.
+use beam::BEAM_MARKER;
 ghost use mathlib.Core.Path.{_≡_};
-ghost use Prim.Native.Nat.{_+_, _%_, _≤_, _<_, min};
-ghost use lib.ListN.{length, take, drop};
+ghost use Prim.Native.Nat.{_+_, _%_, _≤_, _<_};
+ghost use lib.ListN.{length};
 ghost use mir.Syntax.{w8};
 ghost use mir.Val.{toZ};
-ghost use Rattle.pti.specs.Bracket.{nextRecord};
-ghost use Rattle.pti.specs.Beam.{startsMarked, beamCount};
 ghost use Rattle.pti.specs.Frame.{frameOf, taggedOf, sidedOf, partsOf, fieldsOf, directionOf, tailSize, endTag, rssiSize, rssiOf, beamsOf, mpduLength};
-
-// Bracket preamble introducing a PTI record.
-const PREAMBLE: u8 = 0x5B; // '['
-// Bracket postamble terminating a PTI record.
-const POSTAMBLE: u8 = 0x5D; // ']'
 
 // Length of the DCH header for each supported version.
 const DCH_LENGTH_VER2: usize = 11;
@@ -29,9 +22,6 @@ const HW_TX_START: u8 = 0xFC;
 const HW_RX_SUCCESS: u8 = 0xF9;
 
 const HW_TX_SUCCESS: u8 = 0xFD;
-
-// Marker byte repeated throughout a wake-up beam.
-const BEAM_MARKER: u8 = 0x55;
 
 // Z-Wave protocol id in the PTI appendix.
 const ZWAVE_PROTOCOL: u8 = 0x06;
@@ -64,53 +54,10 @@ pub enum Parsed {
     Nothing,
 }
 
-// What splitting a payload meets next.
-pub enum Split {
-    // A body: its place and length in the payload, and the place after its bracket record.
-    Body { at: usize, len: usize, next: usize },
-    // The payload's end, or a malformed record.
-    End,
-}
-
 fn wide(x: u8) -> usize
     ensures { λ r. ⌜ (r ≡ x) × (r < 256) ⌝ }
 {
     x as usize
-}
-
-// The next body of a payload, from the place of a bracket record's first byte on: 0, and then each `next` until `End`.
-pub fn next_record(payload: &[u8], at: usize) -> Split
-    ensures { λ r. ⌜ r ≡ nextRecord (now (payload .entry)) at ⌝ }
-{
-    if payload.len() <= 4 {
-        return Split::End;
-    }
-    let last = payload.len() - 1;
-    let mut from = at;
-    while from < last {
-        let index = from + 1;
-        let len = wide(payload[index]);
-        let close = index + len;
-        if close >= payload.len() {
-            return Split::End;
-        }
-        if payload[from] != PREAMBLE {
-            return Split::End;
-        }
-        if payload[close] != POSTAMBLE {
-            return Split::End;
-        }
-        // The record body starts two bytes past the length and excludes the length and postamble bytes. A length of 1 has no body.
-        if len >= 2 {
-            return Split::Body {
-                at: index + 2,
-                len: len - 2,
-                next: close + 1,
-            };
-        }
-        from = close + 1;
-    }
-    Split::End
 }
 
 // The low four bits: the Rust's REGION_MASK, CHANNEL_MASK and PROTOCOL_MASK are all 0x0F.
@@ -261,9 +208,9 @@ fn beams(part: &[u8], speed: u8) -> u16
         return 0;
     }
     if speed == 3 {
-        return beam_count(4, part);
+        return beam::beam_count(4, part);
     }
-    beam_count(3, part)
+    beam::beam_count(3, part)
 }
 
 // Prefer the length declared in the Z-Wave header; fall back to the whole payload when it is absent or implausible. A beam has no header.
@@ -283,56 +230,4 @@ fn mpdu_length(part: &[u8]) -> usize
         return packet_length;
     }
     len
-}
-
-// Count how many times a beam repeats within `data`.
-//
-// A beam is the same short pattern sent over and over. Rather than divide the length, each candidate repetition is compared against the
-// first and the scan realigns on the 0x55 marker when one does not match.
-pub fn beam_count(frame_length: usize, data: &[u8]) -> u16
-    ensures { λ r. ⌜ r ≡ beamCount «frame_length» (now («data» .entry)) ⌝ }
-{
-    if frame_length == 0 {
-        return 1;
-    }
-    // A truncated beam, missing its home id hash, is still one beam.
-    if data.len() <= frame_length {
-        return 1;
-    }
-    let mut count: u16 = 1;
-    let mut offset = frame_length;
-    while frame_length <= data.len() - offset {
-        if repeats_at(data, frame_length, offset) {
-            count = one_more(count);
-            offset += frame_length;
-        } else {
-            offset += 1;
-        }
-    }
-    count
-}
-
-// One more, to the largest u16 at most.
-fn one_more(count: u16) -> u16
-    ensures { λ r. ⌜ r ≡ min 65535 (count + 1) ⌝ }
-{
-    if count < 65535 { count + 1 } else { count }
-}
-
-// Whether the first bytes of `data` stand again at an offset, marker first.
-fn repeats_at(data: &[u8], size: usize, offset: usize) -> bool
-    requires { ⌜ (1 ≤ size) × (offset + size ≤ length (now «data»)) ⌝ }
-    ensures { λ r. ⌜ r ≡ startsMarked (take size (now («data» .entry))) (drop offset (now («data» .entry))) ⌝ }
-{
-    if data[offset] != BEAM_MARKER {
-        return false;
-    }
-    let mut i = 0;
-    while i < size {
-        if data[i] != data[offset + i] {
-            return false;
-        }
-        i += 1;
-    }
-    true
 }

@@ -1,10 +1,7 @@
 pub mod Signed
-pub mod SumSteps
 pub mod Exits
 pub mod Made
 pub mod Opens
-pub mod Figures
 pub mod Only
-pub mod SumLaws
 pub mod Exact
 pub mod Laws

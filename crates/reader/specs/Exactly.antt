@@ -7,7 +7,7 @@ use mathlib.Core.Path.{_≡_}
 use Rattle.layout.specs.Layout.{leAt, headerSize, traceLimit, propertiesPart, payloadPart}
 use Rattle.layout.specs.Fields.{lengthAt, endPlace}
 use Rattle.reader.specs.declared.ZlfReader.{ZlfReader}
-use Rattle.reader.specs.Sum.{sumOf}
+use Rattle.checksum.specs.Sum.{sumOf}
 use Rattle.reader.specs.Opening.{OpeningTold, openingTold, sumPart, versionOf}
 use Rattle.reader.specs.Next.{NextTold, signed32, noRecord, recordTold}
 

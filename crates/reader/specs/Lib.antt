@@ -1,4 +1,3 @@
-pub mod Sum
 pub mod Opening
 pub mod Next
 pub mod Whole

@@ -5,7 +5,7 @@ use lib.ListN.{length, take}
 use mathlib.Core.Bool.{Bool, cond}
 use mathlib.Core.List.{List}
 use Rattle.layout.specs.Layout.{leAt, headerSize, traceLimit}
-use Rattle.reader.specs.Sum.{sumOf}
+use Rattle.checksum.specs.Sum.{sumOf}
 use Rattle.reader.specs.declared.Opening.{Opening}
 use Rattle.reader.specs.declared.Opening.the-variants.{Opened, TraceTooLong, TraceTooShort, InvalidHeaderChecksum, InvalidZlfVersion}
 

@@ -1,4 +1,4 @@
-// Reading a trace in sequence: the rest of zlf/reader.rs. The header sum, opening, and one record after another.
+// Reading a trace in sequence: the rest of zlf/reader.rs. Opening, and one record after another.
 use layout::LENGTH;
 use layout::PROPERTIES;
 use layout::RECORD_HEADER;
@@ -9,17 +9,11 @@ ghost use Prim.Native.Nat.{_≤_, _<_, _^_};
 ghost use lib.ListN.{length};
 ghost use Rattle.layout.specs.Layout.{headerSize, traceLimit};
 ghost use Rattle.layout.specs.Fields.{lengthAt, endPlace};
-ghost use Rattle.reader.specs.Sum.{sumBit, sumByte, sumOf};
 ghost use Rattle.reader.specs.Opening.{opened, toldOpening, sumRight};
 ghost use Rattle.reader.specs.Next.{signed32, counted, recordTold, nextOf, toldNext};
 
 // Offset of the header's sum within the header.
 pub const HEADER_CRC_OFFSET: usize = 2046;
-
-// The sum's polynomial and start.
-const POLYNOMIAL: u16 = 0x1021;
-
-const START: u16 = 0x1D0F;
 
 // A length from here on is a negative one.
 const NEGATIVE: u32 = 0x8000_0000;
@@ -76,49 +70,12 @@ pub enum Next {
     },
 }
 
-// One bit of the sum: from 0x8000 on, the bit that falls out is 1.
-fn sum_bit(sum: u16) -> u16
-    ensures { λ r. ⌜ r ≡ sumBit sum ⌝ }
-{
-    if 0x8000 <= sum {
-        (sum << 1) ^ POLYNOMIAL
-    } else {
-        sum << 1
-    }
-}
-
-// One byte of the sum, high bit first.
-fn sum_byte(sum: u16, byte: u8) -> u16
-    ensures { λ r. ⌜ r ≡ sumByte sum byte ⌝ }
-{
-    let mut next = sum ^ ((byte as u16) << 8);
-    let mut n: usize = 0;
-    while n < 8 {
-        next = sum_bit(next);
-        n += 1;
-    }
-    next
-}
-
-// The sum of bytes: the catalogue's CRC-16/SPI-FUJITSU, also called AUG-CCITT.
-pub fn header_sum(bytes: &[u8]) -> u16
-    ensures { λ r. ⌜ r ≡ sumOf (now (bytes .entry)) ⌝ }
-{
-    let mut sum = START;
-    let mut i = 0;
-    while i < bytes.len() {
-        sum = sum_byte(sum, bytes[i]);
-        i += 1;
-    }
-    sum
-}
-
 // Whether the header's sum is the stored one.
 fn sum_right(s: &[u8]) -> bool
     requires { ⌜ headerSize ≤ length (now s) ⌝ }
     ensures { λ r. ⌜ r ≡ sumRight (now (s .entry)) ⌝ }
 {
-    header_sum(&s[..HEADER_CRC_OFFSET]) == layout::u16_at(s, HEADER_CRC_OFFSET)
+    checksum::header_sum(&s[..HEADER_CRC_OFFSET]) == layout::u16_at(s, HEADER_CRC_OFFSET)
 }
 
 // A negative length, from the bits that a signed number of 32 bits is stored as.

@@ -1,39 +1,35 @@
 // Cases b and p: a PTI body, and a PTI payload with its bodies.
 use crate::out;
+use crate::out::Said;
+use bracket::Split;
 use pti::Parsed;
 use pti::PtiFrame;
-use pti::Split;
 
-// A frame: R or T, its numbers, and the length and the sum of its MPDU, which stands in the body.
-fn frame(f: PtiFrame, body: &[u8], lines: &mut [u8], line: usize) -> usize {
-    let place = placed(f, lines, line);
-    let rssi = out::put_signed(lines, place, out::from_i8(f.rssi));
-    let beams = out::put_field(lines, rssi, f.beam_count as u64);
-    let len = f.mpdu_len;
-    let mpdu = out::put_field(lines, beams, len as u64);
-    out::put_sum(lines, mpdu, body, f.mpdu, len)
+// A frame, whose MPDU stands in the body.
+fn frame(f: PtiFrame, body: &[u8]) -> Said {
+    out::frame(
+        f.direction,
+        f.region,
+        f.channel,
+        f.speed,
+        f.rssi,
+        f.beam_count,
+        f.mpdu_len,
+        out::sum_of(body, f.mpdu, f.mpdu_len),
+    )
 }
 
-// Its direction, region, channel and speed.
-fn placed(f: PtiFrame, lines: &mut [u8], line: usize) -> usize {
-    let space = out::put_byte(lines, line, b' ');
-    let side = out::put_byte(lines, space, out::side(f.direction));
-    let region = out::put_field(lines, side, out::wide(f.region));
-    let channel = out::put_field(lines, region, out::wide(f.channel));
-    out::put_field(lines, channel, out::wide(f.speed))
-}
-
-fn parsed(body: &[u8], lines: &mut [u8], line: usize) -> usize {
+fn parsed(body: &[u8]) -> Said {
     let p = pti::parse_record(body);
     let Parsed::Frame(f) = p else {
-        return out::put_text(lines, line, b" -");
+        return out::words(out::NONE, 0, 0, 0, 0);
     };
-    frame(f, body, lines, line)
+    frame(f, body)
 }
 
 // One body.
-pub fn body(case: &[u8], lines: &mut [u8], line: usize) -> usize {
-    parsed(out::bytes_of(case), lines, line)
+pub fn body(case: &[u8]) -> Said {
+    parsed(out::bytes_of(case))
 }
 
 // How many bodies a payload has. It has no more than bytes.
@@ -41,7 +37,7 @@ fn count(payload: &[u8]) -> u64 {
     let mut at = 0;
     let mut i = 0;
     while i < payload.len() {
-        let s = pti::next_record(payload, at);
+        let s = bracket::next_record(payload, at);
         let Split::Body {
             at: _,
             len: _,
@@ -56,31 +52,30 @@ fn count(payload: &[u8]) -> u64 {
     i as u64
 }
 
-// A line for a body: its place, its length and its frame.
-fn part(payload: &[u8], at: usize, len: usize, lines: &mut [u8], line: usize) -> usize {
-    let mut next = out::put_text(lines, line, b"\n ");
-    next = out::put_field(lines, next, at as u64);
-    next = out::put_field(lines, next, len as u64);
+// The frame of a body that stands in a payload.
+fn part(payload: &[u8], at: usize, len: usize) -> Said {
     if payload.len() < at {
-        return next;
+        return out::words(0, 0, 0, 0, 0);
     }
     let rest = &payload[at..];
     if rest.len() < len {
-        return next;
+        return out::words(0, 0, 0, 0, 0);
     }
-    parsed(&rest[..len], lines, next)
+    parsed(&rest[..len])
 }
 
+// A line for each body: its place, its length and its frame.
 fn parts(payload: &[u8], lines: &mut [u8], line: usize) -> usize {
     let mut to = line;
     let mut from = 0;
     let mut i = 0;
     while i < payload.len() {
-        let s = pti::next_record(payload, from);
+        let s = bracket::next_record(payload, from);
         let Split::Body { at, len, next } = s else {
             return to;
         };
-        to = part(payload, at, len, lines, to);
+        let place = out::words(out::LINE, 2, at as u64, len as u64, 0);
+        to = out::put_both(lines, to, place, part(payload, at, len));
         from = next;
         i += 1;
     }
@@ -90,6 +85,6 @@ fn parts(payload: &[u8], lines: &mut [u8], line: usize) -> usize {
 // One payload: the number of its bodies, and a line for each.
 pub fn payload(case: &[u8], lines: &mut [u8], line: usize) -> usize {
     let bytes = out::bytes_of(case);
-    let next = out::put_field(lines, line, count(bytes));
+    let next = out::put_said(lines, line, out::words(0, 1, count(bytes), 0, 0));
     parts(bytes, lines, next)
 }

@@ -9,6 +9,7 @@ mod seeks;
 mod sequence;
 mod stream;
 
+use crate::out::Said;
 use libc::STDIN_FILENO;
 ghost use Prim.Native.Nat.{_≤_, _<_};
 ghost use lib.ListN.{length};
@@ -62,93 +63,81 @@ fn case_length(b: &[u8], at: usize) -> usize {
     fixed
 }
 
-// What the line of a case on a trace says after its letter.
-fn asked(letter: u8, case: &[u8], trace: &[u8], g: Given, lines: &mut [u8], line: usize) -> usize {
-    let kinds = g.kinds;
-    if letter == b'r' {
-        return records::record(case, trace, &kinds, lines, line);
+// What the line of a case says after its letter: of one about records, an opening or a seam, and of any that has a short line.
+fn asked(letter: u8, case: &[u8], trace: &[u8], version: u32, kinds: &[u8; 256]) -> Said {
+    match letter {
+        b'r' => records::record(case, trace, kinds),
+        b'n' => records::search(case, trace, kinds),
+        b't' => records::time(case, trace, kinds),
+        b'o' => pages::opened(version, trace),
+        b'u' => pages::seam(case, trace, kinds),
+        _ => sought(letter, case, trace, kinds),
     }
-    if letter == b'n' {
-        return records::search(case, trace, &kinds, lines, line);
-    }
-    if letter == b't' {
-        return records::time(case, trace, &kinds, lines, line);
-    }
-    if letter == b'q' {
-        return sequence::opened(g.version, trace, &kinds, lines, line);
-    }
-    if letter == b'Q' {
-        return sequence::from(case, trace, &kinds, lines, line);
-    }
-    if is_sought(letter) {
-        return sought(letter, case, trace, &kinds, lines, line);
-    }
-    if letter == b'o' {
-        return pages::opened(g.version, trace, lines, line);
-    }
-    if letter == b'T' {
-        return out::put_field(lines, line, trace.len() as u64);
-    }
-    out::put_field(lines, line, layout::u32_at(case, 1) as u64)
 }
 
-// Whether a case is about times or pages.
-fn is_sought(letter: u8) -> bool {
+// Of one about times.
+fn sought(letter: u8, case: &[u8], trace: &[u8], kinds: &[u8; 256]) -> Said {
     match letter {
-        b's' | b'k' | b'h' | b'j' | b'u' | b'f' | b'F' => true,
+        b's' => seeks::span(trace, kinds),
+        b'k' => seeks::whole(case, trace, kinds),
+        b'h' => seeks::steps(case, trace, kinds),
+        b'j' => seeks::step(case, trace, kinds),
+        _ => told(letter, case, trace),
+    }
+}
+
+// Of any other.
+fn told(letter: u8, case: &[u8], trace: &[u8]) -> Said {
+    match letter {
+        b'm' => leaves::time(case),
+        b'c' => leaves::speed(case),
+        b'b' => bodies::body(case),
+        b'g' => sequence::sum(case),
+        b'T' => out::words(0, 1, trace.len() as u64, 0, 0),
+        _ => out::words(0, 1, layout::u32_at(case, 1) as u64, 0, 0),
+    }
+}
+
+// Whether a case's answer may have many lines, or a digit for each of many bytes.
+fn is_long(letter: u8) -> bool {
+    match letter {
+        b'q' | b'Q' | b'f' | b'F' | b'K' | b'C' | b'G' | b'p' | b'z' | b'y' => true,
         _ => false,
     }
 }
 
-// What the line of such a case says after its letter.
-fn sought(
+// What such a case's lines say after its letter: of one about the trace, and of any.
+fn listed(
     letter: u8,
     case: &[u8],
     trace: &[u8],
+    version: u32,
     kinds: &[u8; 256],
     lines: &mut [u8],
     line: usize,
 ) -> usize {
-    if letter == b's' {
-        return seeks::span(trace, kinds, lines, line);
+    if letter == b'q' {
+        return sequence::opened(version, trace, kinds, lines, line);
     }
-    if letter == b'k' {
-        return seeks::whole(case, trace, kinds, lines, line);
+    if letter == b'Q' {
+        return sequence::from(case, trace, kinds, lines, line);
     }
-    if letter == b'h' {
-        return seeks::steps(case, trace, kinds, lines, line);
+    if (letter == b'f') | (letter == b'F') {
+        return pages::listed(letter, case, trace, kinds, lines, line);
     }
-    if letter == b'j' {
-        return seeks::step(case, trace, kinds, lines, line);
-    }
-    if letter == b'u' {
-        return pages::seam(case, trace, kinds, lines, line);
-    }
-    if letter == b'f' {
-        return pages::one(case, trace, kinds, lines, line);
-    }
-    pages::chain(case, trace, kinds, lines, line)
+    spread(letter, case, lines, line)
 }
 
-// What the line of any other case says after its letter.
-fn told(letter: u8, case: &[u8], lines: &mut [u8], line: usize) -> usize {
+// Of any other.
+fn spread(letter: u8, case: &[u8], lines: &mut [u8], line: usize) -> usize {
     if letter == b'K' {
         return leaves::kinds(case, lines, line);
-    }
-    if letter == b'm' {
-        return leaves::time(case, lines, line);
-    }
-    if letter == b'c' {
-        return leaves::speed(case, lines, line);
     }
     if letter == b'C' {
         return leaves::speeds(lines, line);
     }
     if letter == b'G' {
-        return stream::regions(lines, line);
-    }
-    if letter == b'b' {
-        return bodies::body(case, lines, line);
+        return out::put_digits(lines, line, stream::regions());
     }
     if letter == b'p' {
         return bodies::payload(case, lines, line);
@@ -156,32 +145,7 @@ fn told(letter: u8, case: &[u8], lines: &mut [u8], line: usize) -> usize {
     if letter == b'z' {
         return stream::one_by_one(case, lines, line);
     }
-    if letter == b'y' {
-        return stream::at_once(case, lines, line);
-    }
-    sequence::sum(case, lines, line)
-}
-
-// Whether a case is about the trace.
-fn on_trace(letter: u8) -> bool {
-    match letter {
-        b'r'
-        | b'n'
-        | b't'
-        | b'q'
-        | b'Q'
-        | b's'
-        | b'k'
-        | b'h'
-        | b'j'
-        | b'o'
-        | b'u'
-        | b'f'
-        | b'F'
-        | b'T'
-        | b'P' => true,
-        _ => false,
-    }
+    stream::at_once(case, lines, line)
 }
 
 // The answer to one case.
@@ -193,10 +157,12 @@ fn answer(case: &[u8], trace: &[u8], g: Given, lines: &mut [u8], line: usize) ->
 }
 
 fn chosen(letter: u8, case: &[u8], trace: &[u8], g: Given, lines: &mut [u8], line: usize) -> usize {
-    if on_trace(letter) {
-        return asked(letter, case, trace, g, lines, line);
+    let kinds = g.kinds;
+    if is_long(letter) {
+        return listed(letter, case, trace, g.version, &kinds, lines, line);
     }
-    told(letter, case, lines, line)
+    let s = asked(letter, case, trace, g.version, &kinds);
+    out::put_said(lines, line, s)
 }
 
 // The part of the cases that is a trace.
@@ -295,15 +261,14 @@ fn stop(at: usize, end: usize, lines: &mut [u8], line: usize) -> usize {
         return line;
     }
     let text = out::put_text(lines, line, b"unknown or cut off at");
-    let place = out::put_field(lines, text, at as u64);
+    let place = out::put_said(lines, text, out::words(0, 1, at as u64, 0, 0));
     out::put_byte(lines, place, b'\n')
 }
 
 fn run(b: &mut [u8], lines: &mut [u8]) {
     let p = answers(b, lines);
     let stopped = stop(p.at, b.len(), lines, p.line);
-    let text = out::put_text(lines, stopped, b"end");
-    let count = out::put_field(lines, text, p.cases);
+    let count = out::put_said(lines, stopped, out::words(out::END, 1, p.cases, 0, 0));
     let end = out::put_byte(lines, count, b'\n');
     out::flush(lines, end);
 }

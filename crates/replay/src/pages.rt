@@ -1,77 +1,81 @@
 // Cases o, u, f and F: opening as a cursor, the seam check, a page, and pages each from the place that the last one named.
 use crate::out;
-use cursor::Opening;
-use cursor::Page;
-use cursor::Seam;
+use crate::out::Said;
 use cursor::Table;
+use paging::Page;
 use rows::Row;
+use seam::Opening;
+use seam::Seam;
 
 // Opening as a cursor.
-pub fn opened(version: u32, trace: &[u8], lines: &mut [u8], line: usize) -> usize {
-    let o = cursor::open(trace, version);
-    if let Opening::Opened { version: found } = o {
-        return out::put_field(lines, line, found as u64);
+pub fn opened(version: u32, trace: &[u8]) -> Said {
+    let o = seam::open(trace, version);
+    match o {
+        Opening::Opened { version: found } => out::words(0, 1, found as u64, 0, 0),
+        Opening::OtherVersion { version: found } => out::words(out::REFUSED, 2, 4, found as u64, 0),
+        Opening::TraceTooShort => out::refused(2),
+        Opening::TraceTooLong => out::refused(1),
     }
-    if let Opening::OtherVersion { version: found } = o {
-        let text = out::put_text(lines, line, b" R 4");
-        return out::put_field(lines, text, found as u64);
-    }
-    if let Opening::TraceTooShort = o {
-        return out::put_text(lines, line, b" R 2");
-    }
-    out::put_text(lines, line, b" R 1")
 }
 
 // The seam check.
-pub fn seam(case: &[u8], trace: &[u8], kinds: &[u8; 256], lines: &mut [u8], line: usize) -> usize {
-    let place = layout::u64_at(case, 1) as usize;
-    let s = cursor::seam_check(kinds, trace, place);
-    if let Seam::Unbroken { records } = s {
-        let text = out::put_text(lines, line, b" U");
-        let next = out::put_field(lines, text, place as u64);
-        return out::put_field(lines, next, records as u64);
+pub fn seam(case: &[u8], trace: &[u8], kinds: &[u8; 256]) -> Said {
+    let from = layout::u64_at(case, 1);
+    let s = seam::seam_check(kinds, trace, from as usize);
+    match s {
+        Seam::Unbroken { records } => out::words(out::UNBROKEN, 2, from, records as u64, 0),
+        Seam::Broken { place, records } => out::words(
+            out::BROKEN,
+            3,
+            from,
+            place as u64,
+            records as u64,
+        ),
+        Seam::PlaceOutside => out::refused(6),
+        Seam::TraceTooLong => out::refused(1),
     }
-    if let Seam::Broken {
-        place: stop,
-        records,
-    } = s {
-        let text = out::put_text(lines, line, b" B");
-        let next = out::put_field(lines, text, place as u64);
-        let after = out::put_field(lines, next, stop as u64);
-        return out::put_field(lines, after, records as u64);
-    }
-    if let Seam::PlaceOutside = s {
-        return out::put_text(lines, line, b" R 6");
-    }
-    out::put_text(lines, line, b" R 1")
 }
 
-// Where a row stands: its record, its position, its time and its gap.
-fn origin(r: Row, lines: &mut [u8], line: usize) -> usize {
-    let text = out::put_text(lines, line, b"\n ");
-    let at = out::put_field(lines, text, r.record as u64);
-    let position = out::put_field(lines, at, r.position as u64);
-    let millis = out::put_signed(lines, position, r.millis);
-    out::put_signed(lines, millis, r.gap)
+// A line for a row: its record, its position, its time and its gap.
+fn origin(r: Row) -> Said {
+    let millis = out::bits(r.millis);
+    let gap = out::bits(r.gap);
+    Said {
+        word: out::LINE,
+        list: [
+            r.record as u64,
+            r.position as u64,
+            millis,
+            gap,
+            0,
+            0,
+            0,
+            0,
+            0,
+            0,
+            0,
+            0,
+            0,
+        ],
+        count: 4,
+        signed: 2,
+        plain: 4,
+        letter: 0,
+    }
 }
 
-// A row's direction, region, channel and speed.
-fn placed(r: Row, lines: &mut [u8], line: usize) -> usize {
-    let space = out::put_byte(lines, line, b' ');
-    let side = out::put_byte(lines, space, out::side(r.direction));
-    let region = out::put_field(lines, side, out::wide(r.region));
-    let channel = out::put_field(lines, region, out::wide(r.channel));
-    out::put_field(lines, channel, out::wide(r.speed))
-}
-
-// A line for a row, with the length and the sum of its MPDU.
-fn row(r: Row, trace: &[u8], lines: &mut [u8], line: usize) -> usize {
-    let head = origin(r, lines, line);
-    let place = placed(r, lines, head);
-    let rssi = out::put_signed(lines, place, out::from_i8(r.rssi));
-    let beams = out::put_field(lines, rssi, r.beam_count as u64);
-    let mpdu = out::put_field(lines, beams, r.mpdu_len as u64);
-    out::put_sum(lines, mpdu, trace, r.mpdu, r.mpdu_len)
+// Its frame, whose MPDU stands in the trace.
+fn frame(r: Row, trace: &[u8]) -> Said {
+    out::frame(
+        r.direction,
+        r.region,
+        r.channel,
+        r.speed,
+        r.rssi,
+        r.beam_count,
+        r.mpdu_len,
+        out::sum_of(trace, r.mpdu, r.mpdu_len),
+    )
 }
 
 // Whether a row is as the table had it before the page.
@@ -85,7 +89,7 @@ fn is_blank(r: Row) -> bool {
 // The line for the row at a place of a table of which n were written. Those past them are as they were, or it says so.
 fn row_at(r: Row, i: usize, n: usize, trace: &[u8], lines: &mut [u8], line: usize) -> usize {
     if i < n {
-        return row(r, trace, lines, line);
+        return out::put_both(lines, line, origin(r), frame(r, trace));
     }
     if is_blank(r) {
         return line;
@@ -105,59 +109,75 @@ fn rows_of(rows: [Row; 600], n: usize, trace: &[u8], lines: &mut [u8], line: usi
     to
 }
 
-// The line for a page: its start, its number of rows, and the next place if there is one.
-fn edge(start: usize, size: usize, lines: &mut [u8], line: usize) -> usize {
-    let text = out::put_text(lines, line, b"\n page");
-    let next = out::put_field(lines, text, start as u64);
-    out::put_field(lines, next, size as u64)
+// The line for a page: its start, its number of rows, and the next place if there is one; or its refusal.
+fn edge(p: Page) -> Said {
+    match p {
+        Page::More { start, size, next } => out::words(
+            out::LINE_PAGE,
+            3,
+            start as u64,
+            size as u64,
+            next as u64,
+        ),
+        Page::Last { start, size } => last(start, size),
+        Page::WindowTooLong => out::refused(5),
+        Page::TableTooShort => out::words(out::LINE_REFUSED, 1, 7, 0, 0),
+        Page::TraceTooLong => out::refused(1),
+    }
 }
 
-// A page: its rows and its line, or its refusal.
+// The line for a page that names no next place.
+fn last(start: usize, size: usize) -> Said {
+    Said {
+        word: out::LINE_PAGE,
+        list: [start as u64, size as u64, 0, 0, 0, 0, 0, 0, 0, 0, 0, 0, 0],
+        count: 2,
+        signed: 0,
+        plain: 0,
+        letter: b'-',
+    }
+}
+
+// How many rows a page has.
+fn size_of(p: Page) -> usize {
+    match p {
+        Page::More {
+            start: _,
+            size,
+            next: _,
+        } => size,
+        Page::Last { start: _, size } => size,
+        Page::WindowTooLong => 0,
+        Page::TableTooShort => 0,
+        Page::TraceTooLong => 0,
+    }
+}
+
+// A page: its rows, and its line.
 fn shown(t: Table, trace: &[u8], lines: &mut [u8], line: usize) -> usize {
     let p = t.page;
     let list = t.rows;
-    if let Page::More { start, size, next } = p {
-        let to = rows_of(list, size, trace, lines, line);
-        let after = edge(start, size, lines, to);
-        return out::put_field(lines, after, next as u64);
-    }
-    if let Page::Last { start, size } = p {
-        let to = rows_of(list, size, trace, lines, line);
-        let after = edge(start, size, lines, to);
-        return out::put_text(lines, after, b" -");
-    }
-    if let Page::WindowTooLong = p {
-        return out::put_text(lines, line, b" R 5");
-    }
-    if let Page::TableTooShort = p {
-        let text = out::put_text(lines, line, b"\n R 7");
-        return rows_of(list, 0, trace, lines, text);
-    }
-    out::put_text(lines, line, b" R 1")
+    let to = rows_of(list, size_of(p), trace, lines, line);
+    out::put_said(lines, to, edge(p))
 }
 
-// One page.
-pub fn one(case: &[u8], trace: &[u8], kinds: &[u8; 256], lines: &mut [u8], line: usize) -> usize {
-    let offset = layout::u64_at(case, 1) as usize;
-    let count = layout::u64_at(case, 9) as usize;
-    shown(
-        cursor::frames_table(kinds, trace, offset, count),
-        trace,
-        lines,
-        line,
-    )
-}
-
-// Pages, each from the place that the last one named. There are no more of them than bytes.
-pub fn chain(case: &[u8], trace: &[u8], kinds: &[u8; 256], lines: &mut [u8], line: usize) -> usize {
+// So many pages at most, each from the place that the last one named.
+fn pages(
+    case: &[u8],
+    most: usize,
+    trace: &[u8],
+    kinds: &[u8; 256],
+    lines: &mut [u8],
+    line: usize,
+) -> usize {
     let count = layout::u64_at(case, 9) as usize;
     let mut offset = layout::u64_at(case, 1) as usize;
     let mut to = line;
     let mut i = 0;
-    while i <= trace.len() {
+    while i < most {
         let t = cursor::frames_table(kinds, trace, offset, count);
-        let p = t.page;
         to = shown(t, trace, lines, to);
+        let p = t.page;
         let Page::More {
             start: _,
             size: _,
@@ -170,4 +190,20 @@ pub fn chain(case: &[u8], trace: &[u8], kinds: &[u8; 256], lines: &mut [u8], lin
         i += 1;
     }
     to
+}
+
+// One page, or pages up to the last one: there are no more of them than bytes, and one.
+pub fn listed(
+    letter: u8,
+    case: &[u8],
+    trace: &[u8],
+    kinds: &[u8; 256],
+    lines: &mut [u8],
+    line: usize,
+) -> usize {
+    if letter == b'f' {
+        return pages(case, 1, trace, kinds, lines, line);
+    }
+    let most = std::num::wrapping_add_usize(trace.len(), 1);
+    pages(case, most, trace, kinds, lines, line)
 }

@@ -1,59 +1,47 @@
 // Cases s, k, h and j: the span, the whole seek, the stepped seek driven to its end, and one step from any state.
 use crate::out;
+use crate::out::Said;
 use seek::Found;
 use seek::SeekStart;
 use seek::SeekState;
 use seek::SeekStep;
 use seek::SeekTime;
-use seek::Span;
+use span::Span;
 
 // The span.
-pub fn span(trace: &[u8], kinds: &[u8; 256], lines: &mut [u8], line: usize) -> usize {
-    let s = seek::time_span(kinds, trace);
-    if let Span::Times { first, last } = s {
-        let next = out::put_field(lines, line, first);
-        return out::put_field(lines, next, last);
+pub fn span(trace: &[u8], kinds: &[u8; 256]) -> Said {
+    let s = span::time_span(kinds, trace);
+    match s {
+        Span::Times { first, last } => out::words(0, 2, first, last, 0),
+        Span::Nothing => out::words(out::NONE, 0, 0, 0, 0),
+        Span::TraceTooLong => out::refused(1),
     }
-    if let Span::Nothing = s {
-        return out::put_text(lines, line, b" -");
-    }
-    out::put_text(lines, line, b" R 1")
 }
 
 // The whole seek.
-pub fn whole(case: &[u8], trace: &[u8], kinds: &[u8; 256], lines: &mut [u8], line: usize) -> usize {
+pub fn whole(case: &[u8], trace: &[u8], kinds: &[u8; 256]) -> Said {
     let target = out::signed(layout::u64_at(case, 1));
     let s = seek::seek_time(kinds, trace, target);
-    if let SeekTime::Found { offset, halvings } = s {
-        let next = out::put_field(lines, line, offset as u64);
-        return out::put_field(lines, next, halvings as u64);
+    match s {
+        SeekTime::Found { offset, halvings } => out::words(0, 2, offset as u64, halvings as u64, 0),
+        SeekTime::Nothing { halvings } => out::words(out::NONE, 1, halvings as u64, 0, 0),
+        SeekTime::TraceTooLong => out::refused(1),
     }
-    if let SeekTime::Nothing { halvings } = s {
-        let next = out::put_text(lines, line, b" -");
-        return out::put_field(lines, next, halvings as u64);
-    }
-    out::put_text(lines, line, b" R 1")
 }
 
-fn found(f: Found, lines: &mut [u8], line: usize) -> usize {
-    let Found::At { offset } = f else {
-        return out::put_text(lines, line, b" -");
-    };
-    out::put_field(lines, line, offset as u64)
+// A state after a word: with its bounds, or with its place.
+fn state(searching: u64, scanning: u64, s: SeekState) -> Said {
+    match s {
+        SeekState::Searching { lo, hi } => out::words(searching, 2, lo as u64, hi as u64, 0),
+        SeekState::Scanning { at } => out::words(scanning, 1, at as u64, 0, 0),
+    }
 }
 
-// A state: S with its bounds, or C with its place.
-fn state(s: SeekState, lines: &mut [u8], line: usize) -> usize {
-    if let SeekState::Searching { lo, hi } = s {
-        let text = out::put_text(lines, line, b" S");
-        let next = out::put_field(lines, text, lo as u64);
-        return out::put_field(lines, next, hi as u64);
+fn done(f: Found) -> Said {
+    match f {
+        Found::At { offset } => out::words(out::DONE, 1, offset as u64, 0, 0),
+        Found::Nothing => out::words(out::DONE_NONE, 0, 0, 0, 0),
     }
-    let SeekState::Scanning { at } = s else {
-        return line;
-    };
-    let text = out::put_text(lines, line, b" C");
-    out::put_field(lines, text, at as u64)
 }
 
 // The state that a case holds: its tag, and two numbers.
@@ -67,25 +55,16 @@ fn asked(case: &[u8]) -> SeekState {
 }
 
 // One step.
-pub fn step(case: &[u8], trace: &[u8], kinds: &[u8; 256], lines: &mut [u8], line: usize) -> usize {
+pub fn step(case: &[u8], trace: &[u8], kinds: &[u8; 256]) -> Said {
     let target = out::signed(layout::u64_at(case, 1));
     let r = seek::seek_step(kinds, trace, target, asked(case));
-    if let SeekStep::More { state: s } = r {
-        let text = out::put_text(lines, line, b" more");
-        return state(s, lines, text);
+    match r {
+        SeekStep::More { state: s } => state(out::MORE_SEARCHING, out::MORE_SCANNING, s),
+        SeekStep::Scan { state: s } => state(out::SCAN_SEARCHING, out::SCAN_SCANNING, s),
+        SeekStep::Done { found } => done(found),
+        SeekStep::WindowTooLong => out::refused(5),
+        SeekStep::TraceTooLong => out::refused(1),
     }
-    if let SeekStep::Scan { state: s } = r {
-        let text = out::put_text(lines, line, b" scan");
-        return state(s, lines, text);
-    }
-    if let SeekStep::Done { found: f } = r {
-        let text = out::put_text(lines, line, b" done");
-        return found(f, lines, text);
-    }
-    if let SeekStep::WindowTooLong = r {
-        return out::put_text(lines, line, b" R 5");
-    }
-    out::put_text(lines, line, b" R 1")
 }
 
 // 1 where a step from this state halves.
@@ -102,15 +81,16 @@ fn halves(s: SeekState) -> u64 {
     1
 }
 
-// The stepped seek from a state on: its answer, its halvings and its steps. It makes no more steps than a trace has bytes, and some.
-fn driven(
-    start: SeekState,
-    target: i64,
-    trace: &[u8],
-    kinds: &[u8; 256],
-    lines: &mut [u8],
-    line: usize,
-) -> usize {
+// Where the stepped seek ended, its halvings and its steps.
+fn ended(f: Found, halvings: u64, steps: u64) -> Said {
+    match f {
+        Found::At { offset } => out::words(0, 3, offset as u64, halvings, steps),
+        Found::Nothing => out::words(out::NONE, 2, halvings, steps, 0),
+    }
+}
+
+// The stepped seek from a state on. It makes no more steps than a trace has bytes, and some.
+fn driven(start: SeekState, target: i64, trace: &[u8], kinds: &[u8; 256]) -> Said {
     let mut s = start;
     let mut halvings: u64 = 0;
     let mut steps: u64 = 0;
@@ -118,18 +98,16 @@ fn driven(
         steps += 1;
         halvings = std::num::wrapping_add_u64(halvings, halves(s));
         let r = seek::seek_step(kinds, trace, target, s);
-        if let SeekStep::Done { found: f } = r {
-            let next = found(f, lines, line);
-            let after = out::put_field(lines, next, halvings);
-            return out::put_field(lines, after, steps);
+        if let SeekStep::Done { found } = r {
+            return ended(found, halvings, steps);
         }
         let go = leads(r);
         if go.stops {
-            return out::put_text(lines, line, b" R");
+            return out::words(out::REFUSED, 0, 0, 0, 0);
         }
         s = go.state;
     }
-    line
+    out::words(0, 0, 0, 0, 0)
 }
 
 // Where a step leads, unless it refuses.
@@ -158,11 +136,11 @@ fn leads(r: SeekStep) -> Onward {
 }
 
 // The stepped seek from its start.
-pub fn steps(case: &[u8], trace: &[u8], kinds: &[u8; 256], lines: &mut [u8], line: usize) -> usize {
+pub fn steps(case: &[u8], trace: &[u8], kinds: &[u8; 256]) -> Said {
     let target = out::signed(layout::u64_at(case, 1));
     let b = seek::seek_start(kinds, trace);
     let SeekStart::From { state } = b else {
-        return out::put_text(lines, line, b" R 1");
+        return out::refused(1);
     };
-    driven(state, target, trace, kinds, lines, line)
+    driven(state, target, trace, kinds)
 }

@@ -1,69 +1,93 @@
 // Cases g, q and Q: the header sum, and reading in sequence, from an opening and from any place.
 use crate::out;
+use crate::out::Said;
 use reader::Next;
 use reader::Opening;
 use reader::ZlfReader;
 use reader::ZlfRecord;
 
 // The sum of bytes.
-pub fn sum(case: &[u8], lines: &mut [u8], line: usize) -> usize {
-    out::put_field(lines, line, reader::header_sum(out::bytes_of(case)) as u64)
+pub fn sum(case: &[u8]) -> Said {
+    let sum = checksum::header_sum(out::bytes_of(case));
+    out::words(0, 1, sum as u64, 0, 0)
 }
 
-// The numbers of a record, in the order of the oracle's line.
-fn numbers(h: ZlfRecord) -> [u64; 8] {
-    let outgoing = out::digit(h.is_outcome);
-    [
-        h.offset as u64,
-        h.raw_ticks,
-        outgoing,
-        out::wide(h.session_id),
-        out::wide(h.end),
-        out::wide(h.kind),
-        h.payload_offset as u64,
-        h.payload_len as u64,
-    ]
-}
-
-// A line for a record: its numbers, and the sum of its payload.
-fn entry(h: ZlfRecord, trace: &[u8], lines: &mut [u8], line: usize) -> usize {
-    let list = numbers(h);
-    let text = out::put_text(lines, line, b"\n ");
-    let next = out::put_list(lines, text, &list);
-    out::put_sum(lines, next, trace, h.payload_offset, h.payload_len)
-}
-
-// The reader's place and count.
-fn left(r: ZlfReader, lines: &mut [u8], line: usize) -> usize {
-    let next = out::put_field(lines, line, r.place as u64);
-    out::put_field(lines, next, r.record_count())
-}
-
-// How a read ends.
-fn ending(n: Next, lines: &mut [u8], line: usize) -> usize {
-    if let Next::InvalidPayloadLength { length, reader } = n {
-        let text = out::put_text(lines, line, b"\n R 8");
-        let next = out::put_signed(lines, text, out::from_i32(length));
-        return left(reader, lines, next);
+// A line for a record: its numbers in the order of the oracle's line, and the sum of its payload.
+fn entry(h: ZlfRecord, trace: &[u8]) -> Said {
+    let s = out::sum_of(trace, h.payload_offset, h.payload_len);
+    Said {
+        word: out::LINE,
+        list: [
+            h.offset as u64,
+            h.raw_ticks,
+            out::digit(h.is_outcome),
+            h.session_id as u64,
+            h.end as u64,
+            h.kind as u64,
+            h.payload_offset as u64,
+            h.payload_len as u64,
+            s.sum,
+            0,
+            0,
+            0,
+            0,
+        ],
+        count: out::counted(9, 8, s.letter),
+        signed: 0,
+        plain: 0,
+        letter: s.letter,
     }
-    if let Next::EofInHead { reader } = n {
-        let text = out::put_text(lines, line, b"\n R 9");
-        return left(reader, lines, text);
-    }
-    if let Next::EofInPayload { reader } = n {
-        let text = out::put_text(lines, line, b"\n R 10");
-        return left(reader, lines, text);
-    }
-    if let Next::End { reader } = n {
-        let text = out::put_text(lines, line, b"\n end");
-        return left(reader, lines, text);
-    }
-    out::put_text(lines, line, b"\n R 1")
 }
 
-// A line for each record from a reader on, and how the read ends. A trace has no more records than bytes.
+// A line for a refusal, with the reader's place and count.
+fn stopped(number: u64, r: ZlfReader) -> Said {
+    out::words(
+        out::LINE_REFUSED,
+        3,
+        number,
+        r.place as u64,
+        r.record_count(),
+    )
+}
+
+// The line for a payload whose length is negative.
+fn negative(length: i32, r: ZlfReader) -> Said {
+    let bits = out::bits(out::from_i32(length));
+    let count = r.record_count();
+    Said {
+        word: out::LINE_REFUSED,
+        list: [8, bits, r.place as u64, count, 0, 0, 0, 0, 0, 0, 0, 0, 0],
+        count: 4,
+        signed: 1,
+        plain: 2,
+        letter: 0,
+    }
+}
+
+// The line for a read: a record, or how it ends.
+fn told(n: Next, trace: &[u8]) -> Said {
+    match n {
+        Next::Record { header, reader: _ } => entry(header, trace),
+        Next::InvalidPayloadLength { length, reader } => negative(length, reader),
+        Next::EofInHead { reader } => stopped(9, reader),
+        Next::EofInPayload { reader } => stopped(10, reader),
+        Next::End { reader } => {
+            out::words(
+                out::LINE_END,
+                2,
+                reader.place as u64,
+                reader.record_count(),
+                0,
+            )
+        }
+        Next::TraceTooLong { reader: _ } => out::words(out::LINE_REFUSED, 1, 1, 0, 0),
+    }
+}
+
+// A line for each record from a reader on, so many at most, and how the read ends.
 fn entries(
     start: ZlfReader,
+    most: usize,
     trace: &[u8],
     kinds: &[u8; 256],
     lines: &mut [u8],
@@ -72,16 +96,32 @@ fn entries(
     let mut r = start;
     let mut to = line;
     let mut i = 0;
-    while i <= trace.len() {
+    while i < most {
         let n = r.next_record(kinds, trace);
-        let Next::Record { header, reader } = n else {
-            return ending(n, lines, to);
+        to = out::put_said(lines, to, told(n, trace));
+        let Next::Record { header: _, reader } = n else {
+            return to;
         };
-        to = entry(header, trace, lines, to);
         r = reader;
         i += 1;
     }
     to
+}
+
+// How many reads reach the end: a trace has no more records than bytes.
+fn most(trace: &[u8]) -> usize {
+    std::num::wrapping_add_usize(trace.len(), 1)
+}
+
+// An opening.
+fn opening(o: Opening) -> Said {
+    match o {
+        Opening::Opened { version, reader: _ } => out::words(0, 1, version as u64, 0, 0),
+        Opening::InvalidZlfVersion { version } => out::words(out::REFUSED, 2, 4, version as u64, 0),
+        Opening::InvalidHeaderChecksum => out::refused(3),
+        Opening::TraceTooShort => out::refused(2),
+        Opening::TraceTooLong => out::refused(1),
+    }
 }
 
 // From an opening.
@@ -93,28 +133,16 @@ pub fn opened(
     line: usize,
 ) -> usize {
     let o = ZlfReader::new(trace, version);
-    if let Opening::Opened {
-        version: found,
-        reader,
-    } = o {
-        let next = out::put_field(lines, line, found as u64);
-        return entries(reader, trace, kinds, lines, next);
-    }
-    if let Opening::InvalidZlfVersion { version: found } = o {
-        let next = out::put_text(lines, line, b" R 4");
-        return out::put_field(lines, next, found as u64);
-    }
-    if let Opening::InvalidHeaderChecksum = o {
-        return out::put_text(lines, line, b" R 3");
-    }
-    if let Opening::TraceTooShort = o {
-        return out::put_text(lines, line, b" R 2");
-    }
-    out::put_text(lines, line, b" R 1")
+    let next = out::put_said(lines, line, opening(o));
+    let Opening::Opened { version: _, reader } = o else {
+        return next;
+    };
+    entries(reader, most(trace), trace, kinds, lines, next)
 }
 
 // From any place.
 pub fn from(case: &[u8], trace: &[u8], kinds: &[u8; 256], lines: &mut [u8], line: usize) -> usize {
     let place = layout::u64_at(case, 1) as usize;
-    entries(ZlfReader { place, count: 0 }, trace, kinds, lines, line)
+    let reader = ZlfReader { place, count: 0 };
+    entries(reader, most(trace), trace, kinds, lines, line)
 }

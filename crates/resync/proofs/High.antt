@@ -11,8 +11,8 @@ use native.Mathlib.Omega.{arith}
 use Rattle.layout.proofs.Numbers.{below}
 use Rattle.layout.specs.Layout.{leAt}
 use Rattle.ticks.specs.Ticks.{cleared}
-use Rattle.resync.proofs.Ways.{fails}
-use Rattle.resync.specs.Record.{plausible, ticksIn, valid}
+use Rattle.record.proofs.Ways.{fails}
+use Rattle.record.specs.Record.{plausible, ticksIn, valid}
 use Rattle.layout.specs.Fields.{ticksAt, lengthAt}
 
 and-false : (a b : Bool) → b ≡ false → (a && b) ≡ false

@@ -1,7 +1,4 @@
-pub mod Ways
 pub mod Chain
-pub mod Valid
-pub mod Answers
 pub mod High
 pub mod First
 pub mod Searched

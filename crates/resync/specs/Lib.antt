@@ -1,3 +1,2 @@
-pub mod Record
 pub mod Boundary
 pub mod Search

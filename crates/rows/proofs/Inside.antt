@@ -10,11 +10,11 @@ use native.Mathlib.Decide.{decLe}
 use native.Mathlib.Omega.{arith}
 use Rattle.choice.proofs.Choice.{either}
 use Rattle.pti.proofs.Mpdus.{mpdu-inside}
-use Rattle.pti.proofs.Splitting.{body-inside, next-further}
-use Rattle.pti.specs.Bracket.{nextRecord}
+use Rattle.bracket.proofs.Splitting.{body-inside, next-further}
+use Rattle.bracket.specs.Bracket.{nextRecord}
 use Rattle.pti.specs.Frame.{frameOf}
-use Rattle.pti.specs.declared.Split.{Split}
-use Rattle.pti.specs.declared.Split.the-variants.{Body, End}
+use Rattle.bracket.specs.declared.Split.{Split}
+use Rattle.bracket.specs.declared.Split.the-variants.{Body, End}
 use Rattle.pti.specs.declared.Parsed.{Parsed}
 use Rattle.pti.specs.declared.Parsed.the-variants as Parsed
 use Rattle.zniffer_laws.proofs.Theorems.{numbers-agree, payload-ends-there}

@@ -9,13 +9,13 @@ use mathlib.Core.List.{List, [], _∷_, _++_, flatMap}
 use mathlib.Core.Path.{_≡_, refl, sym, ap, subst, _∙_}
 use native.Mathlib.Omega.{arith}
 use Rattle.choice.proofs.Choice.{by-choice}
-use Rattle.pti.proofs.Splitting.{head, body-inside, next-further, next-inside}
-use Rattle.pti.proofs.Walks.{outside}
+use Rattle.bracket.proofs.Splitting.{head, body-inside, next-further, next-inside}
+use Rattle.bracket.proofs.Walks.{outside}
 use Rattle.pti.proofs.Mpdus.{mpdu-inside}
-use Rattle.pti.specs.Bracket.{lengthAt, nextAt, good, Piece, bodyAt, walk, bodiesFrom, stepAt, nextRecord}
+use Rattle.bracket.specs.Bracket.{lengthAt, nextAt, good, Piece, bodyAt, walk, bodiesFrom, stepAt, nextRecord}
 use Rattle.pti.specs.Frame.{frameOf}
-use Rattle.pti.specs.declared.Split.{Split}
-use Rattle.pti.specs.declared.Split.the-variants.{Body, End}
+use Rattle.bracket.specs.declared.Split.{Split}
+use Rattle.bracket.specs.declared.Split.the-variants.{Body, End}
 use Rattle.pti.specs.declared.Parsed.{Parsed}
 use Rattle.pti.specs.declared.Parsed.the-variants as Parsed
 use Rattle.pti.specs.declared.PtiFrame.{PtiFrame}

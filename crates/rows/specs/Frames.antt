@@ -7,7 +7,7 @@ use mathlib.Core.Bool.{Bool, true, false, _||_, cond}
 use mathlib.Core.List.{List, [], _∷_, _++_, flatMap}
 use mir.Syntax.{w8}
 use mir.Val.{toZ}
-use Rattle.pti.specs.Bracket.{Piece, bodiesFrom}
+use Rattle.bracket.specs.Bracket.{Piece, bodiesFrom}
 use Rattle.pti.specs.Frame.{directionOf, frameOf}
 use Rattle.pti.specs.declared.PtiFrame.{PtiFrame}
 use Rattle.pti.specs.declared.Parsed.{Parsed}

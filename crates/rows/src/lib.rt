@@ -2,12 +2,12 @@
 //
 // A walk over the frames of a payload goes by one index: after each frame the Zniffer parser is fresh, and a bracket record
 // is passed whole, so what comes next depends on the place alone.
+use bracket::Split;
 use layout::PTI;
 use layout::PTI_DIAGNOSTIC;
 use layout::ZNIFFER;
 use pti::Parsed;
 use pti::PtiFrame;
-use pti::Split;
 use zniffer_numbers::ParserResult;
 ghost use mathlib.Core.Path.{_≡_};
 ghost use Prim.Native.Nat.{_+_, _-_, _<_};
@@ -83,7 +83,7 @@ fn next_pti(payload: &[u8], at: usize) -> Next
             at: start,
             len,
             next,
-        } = pti::next_record(payload, from)
+        } = bracket::next_record(payload, from)
         else {
             return Next::End;
         };

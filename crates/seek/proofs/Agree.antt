@@ -9,12 +9,12 @@ use mathlib.Core.Path.{_≡_, refl, sym, ap, subst, _∙_}
 use native.Mathlib.Decide.{decLt}
 use native.Mathlib.Omega.{arith}
 use Rattle.layout.specs.Layout.{traceLimit}
-use Rattle.resync.proofs.Chain.{Steps}
+use Rattle.record.proofs.Steps.{Steps}
 use Rattle.seek.proofs.Exits.{step-fits}
 use Rattle.seek.proofs.Halvings as Halvings
-use Rattle.seek.proofs.Meets.{Meets, meets, not-refused, ends-after}
+use Rattle.span.proofs.Meets.{Meets, meets, not-refused, ends-after}
 use Rattle.seek.proofs.Walks as Walks
-use Rattle.seek.specs.Met.{Trace, meet, firstMet}
+use Rattle.span.specs.Met.{Trace, meet, firstMet}
 use Rattle.seek.specs.Seek.{middle, nextLo, nextHi, Bracket, narrowed, walked, seekTold, bracket, seekOf}
 use Rattle.seek.specs.Step.{toldState, startTold, startAt, more, scan, done, stepOf, stepAt, Driven, ends, goes-on, scans}
 use Rattle.seek.specs.declared.SeekState.{SeekState}

@@ -6,7 +6,7 @@ use mathlib.Core.Option.{Option, none, some}
 use mathlib.Core.Path.{_≡_, refl, sym, ap, subst, _∙_}
 use native.Mathlib.Omega.{arith}
 use Rattle.seek.proofs.Only.{only-state}
-use Rattle.seek.specs.Met.{Trace}
+use Rattle.span.specs.Met.{Trace}
 use Rattle.seek.specs.Step.{toldState, StepTold, done, halvingOf, Driven, ends, goes-on, scans}
 use Rattle.seek.specs.declared.SeekState.{SeekState}
 

@@ -1,18 +1,17 @@
 -- The ways out of the code, over a search: which facts make each answer the definition's. Assumes nothing.
-use Prim.Native.Nat.{ℕ, suc, _+_, _-_, _/_, _≤_, _<_}
+use Prim.Native.Nat.{ℕ, _+_, _-_, _/_, _≤_, _<_}
 use borrow.Author.Tests.{lt-ltb, le-ltb, eq-eqb}
-use lib.Dec.{eqb}
+use lib.Dec.{eqb, ltb}
 use lib.IntN.{ℤ}
 use lib.Signed.{ltZ}
 use mathlib.Core.Bool.{Bool, true, false, cond}
 use mathlib.Core.Option.{Option, none, some}
-use mathlib.Core.Path.{_≡_, refl, sym, _∙_}
+use mathlib.Core.Path.{_≡_, refl, sym, ap, _∙_}
 use Rattle.layout.specs.Layout.{headerSize, traceLimit}
-use Rattle.seek.proofs.Meets.{metAt}
-use Rattle.seek.specs.Met.{Trace, MetTold, meet, notMet, firstTold, firstOf}
-use Rattle.seek.specs.Span.{noSpan, spanTo, lastBack, spanOf}
-use Rattle.seek.specs.Seek.{nextLo, nextHi, narrowed, walked, seekTold, noSeek, seekOf}
-use Rattle.seek.specs.Step.{toldState, noState, startTold, startAt, StepTold, refused, more, scan, done, unless, stepOf, stepAt}
+use Rattle.span.proofs.Meets.{metAt}
+use Rattle.span.specs.Met.{Trace, MetTold, meet, notMet, firstMet, FirstTold, firstTold, firstOf}
+use Rattle.seek.specs.Seek.{nextLo, nextHi, Bracket, narrowed, walked, SeekTold, seekTold, noSeek, seekOf}
+use Rattle.seek.specs.Step.{toldState, noState, StartTold, startTold, startAt, StepTold, refused, more, scan, done, unless, stepOf, stepAt}
 use Rattle.seek.specs.declared.SeekState.{SeekState}
 use Rattle.seek.specs.declared.SeekState.the-variants.{Searching, Scanning}
 
@@ -26,57 +25,65 @@ module _ (target : ℤ) (lo mid hi : ℕ) (m : MetTold) where
       → (cond b end lo ≡ nextLo target lo m) × (cond b hi mid ≡ nextHi target mid hi m)
   is-met b o end time e q = rw e (simp q (refl, refl))
 
--- refusal 1, of each
-module _ (t : Trace) (long : traceLimit < t .size) where
-  pub first-long : firstTold 1 false 0 ≡ firstOf t
-  unfolding firstOf
-  first-long = simp (lt-ltb traceLimit (t .size) long)
+-- refusal 1 of a step, which is judged first
+pub step-long : (t : Trace) → traceLimit < t .size → (target : ℤ) (state : SeekState) → refused 1 ≡ stepAt t target state
+unfolding stepAt
+step-long t long target state = simp (lt-ltb traceLimit (t .size) long)
 
-  pub span-long : noSpan 1 ≡ spanOf t
-  unfolding spanOf
-  span-long = simp (lt-ltb traceLimit (t .size) long)
+pub step-fits : (t : Trace) → t .size ≤ traceLimit → (target : ℤ) (state : SeekState) → stepOf (meet t) (t .size) target state ≡ stepAt t target state
+unfolding stepAt
+step-fits t fits target state = simp (le-ltb traceLimit (t .size) fits)
 
-  pub start-long : startTold 1 noState ≡ startAt t
-  unfolding startAt
-  start-long = simp (lt-ltb traceLimit (t .size) long)
+-- where a stepped seek starts, by what asking for the first record answers
+abbrev startsFrom : Trace → FirstTold → StartTold
+startsFrom t f =
+    cond (eqb (f .refusal) 0) (startTold 0 (toldState (Searching (cond (f .isFound) (f .offset) headerSize) (t .size)))) (startTold 1 noState)
 
-  pub step-long : (target : ℤ) (state : SeekState) → refused 1 ≡ stepAt t target state
-  unfolding stepAt
-  step-long target state = simp (lt-ltb traceLimit (t .size) long)
+start-by :
+    (t : Trace) (m : MetTold) (b : Bool)
+    → startsFrom t (cond b (firstTold 1 false 0) (firstTold 0 (m .isFound) (m .offset)))
+    ≡ cond b (startTold 1 noState) (startTold 0 (toldState (Searching (cond (m .isFound) (m .offset) headerSize) (t .size))))
+start-by t m true = refl
+start-by t m false = refl
 
-  pub seek-long : (target : ℤ) → noSeek ≡ seekOf t target
-  unfolding seekOf
-  seek-long target = simp (lt-ltb traceLimit (t .size) long)
+pub start-is : (t : Trace) (f : FirstTold) → f ≡ firstOf t → startsFrom t f ≡ startAt t
+unfolding firstOf startAt
+start-is t f e = ap (startsFrom t) e ∙ start-by t (firstMet t) (ltb traceLimit (t .size))
 
--- within the limit, by what the search for the first record met
-module _ (t : Trace) (fits : t .size ≤ traceLimit) where
-  pub step-fits : (target : ℤ) (state : SeekState) → stepOf (meet t) (t .size) target state ≡ stepAt t target state
-  unfolding stepAt
-  step-fits target state = simp (le-ltb traceLimit (t .size) fits)
+-- the whole seek, by the same
+module _ (t : Trace) (target : ℤ) where
+  abbrev halvings-from : ℕ → Bracket
+  halvings-from first = narrowed (meet t) target (t .size) first (t .size)
 
-  module _ (m : MetTold) (e : m ≡ meet t headerSize) where
-    pub first-is : firstTold 0 (m .isFound) (m .offset) ≡ firstOf t
-    unfolding firstOf
-    first-is = rw e (simp (le-ltb traceLimit (t .size) fits))
+  abbrev walk-from : ℕ → Option ℕ
+  walk-from lo = walked (meet t) (t .size) target (t .size) lo
 
-    pub start-is : startTold 0 (toldState (Searching (cond (m .isFound) (m .offset) headerSize) (t .size))) ≡ startAt t
-    unfolding startAt
-    start-is = rw e (simp (le-ltb traceLimit (t .size) fits))
+  abbrev seeksFrom : FirstTold → SeekTold
+  seeksFrom f =
+      cond (eqb (f .refusal) 0)
+      (cond (f .isFound) (seekTold (halvings-from (f .offset) .halvings) (walk-from (halvings-from (f .offset) .lo))) (seekTold 0 none))
+      noSeek
 
-    pub span-is : cond (m .isFound) (spanTo (m .millis) (lastBack (meet t) (t .size) (suc (t .size)) 1048576)) (noSpan 0) ≡ spanOf t
-    unfolding spanOf
-    span-is = rw e (simp (le-ltb traceLimit (t .size) fits))
+  seek-by :
+      (m : MetTold) (b : Bool)
+      → seeksFrom (cond b (firstTold 1 false 0) (firstTold 0 (m .isFound) (m .offset)))
+      ≡ cond b noSeek
+      (cond (m .isFound) (seekTold (halvings-from (m .offset) .halvings) (walk-from (halvings-from (m .offset) .lo))) (seekTold 0 none))
+  seek-by m true = refl
+  seek-by m false = refl
 
-    pub seek-none : (target : ℤ) → m .isFound ≡ false → seekTold 0 none ≡ seekOf t target
-    unfolding seekOf
-    seek-none target is = simp (le-ltb traceLimit (t .size) fits, rw e at is)
+  pub seek-is : (f : FirstTold) → f ≡ firstOf t → seeksFrom f ≡ seekOf t target
+  unfolding firstOf seekOf
+  seek-is f e = ap seeksFrom e ∙ seek-by (firstMet t) (ltb traceLimit (t .size))
 
-    pub seek-is :
-        (target : ℤ) → m .isFound ≡ true → (lo h : ℕ) → lo ≡ narrowed (meet t) target (t .size) (m .offset) (t .size) .lo → h ≡ narrowed (meet t) target (t .size) (m .offset) (t .size) .halvings
-        → (o : Option ℕ) → o ≡ walked (meet t) (t .size) target (t .size) lo → seekTold h o ≡ seekOf t target
-    unfolding seekOf
-    seek-is target is lo h lo-is h-is o o-is =
-        rw (o-is, lo-is, h-is, e) (simp (le-ltb traceLimit (t .size) fits, rw e at is))
+  -- in the code's numbers: where the halvings leave lo, how many there are, and what the walk from there answers
+  pub seek-done :
+      (first : ℕ) → firstTold 0 true first ≡ firstOf t → (lo h : ℕ) → lo ≡ halvings-from first .lo → h ≡ halvings-from first .halvings
+      → (o : Option ℕ) → o ≡ walk-from lo → seekTold h o ≡ seekOf t target
+  seek-done first e lo h lo-is h-is o o-is =
+      ap (λ (k : ℕ). seekTold k o) h-is
+      ∙ ap (seekTold (halvings-from first .halvings)) (o-is ∙ ap walk-from lo-is)
+      ∙ seek-is (firstTold 0 true first) e
 
 unless-none : (m : MetTold) (step : StepTold) → m .refusal ≡ 0 → unless m step ≡ step
 unless-none m step e = simp (eq-eqb (m .refusal) 0 e)

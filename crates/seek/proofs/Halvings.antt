@@ -8,10 +8,10 @@ use mathlib.Core.Path.{_≡_, refl, sym, ap, _∙_}
 use native.Mathlib.Decide.{decLt}
 use native.Mathlib.Omega.{arith}
 use Rattle.layout.specs.Layout.{traceLimit}
-use Rattle.seek.proofs.Steady.{steady}
-use Rattle.seek.proofs.Meets.{Meets, ends-after}
+use Rattle.span.proofs.Steady.{steady}
+use Rattle.span.proofs.Meets.{Meets, ends-after}
 use Rattle.choice.proofs.Choice.{left-true}
-use Rattle.seek.specs.Met.{MetTold}
+use Rattle.span.specs.Met.{MetTold}
 use Rattle.seek.specs.Seek.{wide, middle, earlier, nextLo, nextHi, Bracket, halvedNone, counted, narrowed}
 
 -- an earlier record is a record

@@ -1,5 +1,5 @@
--- What an answer says, over any trace whose records go on and end inside it: at most 14 halvings; a found place is a boundary, and its record is not earlier than the target; and the span's last time is that of a record after which none is met. Assumes nothing.
-use Prim.Native.Nat.{ℕ, suc, _-_, _≤_, _<_}
+-- What an answer says, over any trace whose records go on and end inside it: at most 14 halvings; and a found place is a boundary, and its record is not earlier than the target. Assumes nothing.
+use Prim.Native.Nat.{ℕ, _-_, _≤_, _<_}
 use borrow.Author.Tests.{le-ltb, ltb-false}
 use lib.Dec.{ltb, eqb}
 use lib.IntN.{ℤ}
@@ -11,19 +11,16 @@ use mathlib.Core.Option.{Option, none, some}
 use mathlib.Core.Path.{_≡_, refl, sym, ap, _∙_}
 use native.Mathlib.Omega.{arith}
 use Rattle.layout.specs.Layout.{headerSize, traceLimit}
-use Rattle.resync.proofs.Chain.{Steps}
-use Rattle.resync.proofs.Valid.{record-steps}
+use Rattle.record.proofs.Steps.{Steps}
+use Rattle.record.proofs.Valid.{record-steps}
 use Rattle.resync.specs.Boundary.{boundary}
-use Rattle.resync.specs.Record.{Limits}
-use Rattle.resync.specs.Search.{searched}
+use Rattle.record.specs.Record.{Limits}
 use Rattle.seek.proofs.Agree.{Agree, seeks-agree}
-use Rattle.seek.proofs.Exits.{step-fits, start-is, seek-none, narrow-enough, scan-past}
+use Rattle.seek.proofs.Exits.{step-fits, narrow-enough, scan-past}
 use Rattle.seek.proofs.Halvings.{at-most-14}
-use Rattle.seek.proofs.Meets.{MetAt, met-at, meets}
-use Rattle.seek.proofs.Spans.{LastMet, reaches, last-met}
+use Rattle.span.proofs.Meets.{MetAt, met-at, meets}
 use Rattle.seek.proofs.Walks.{Answer, found-met}
-use Rattle.seek.specs.Met.{Trace, traceOf, MetTold, meet, firstMet}
-use Rattle.seek.specs.Span.{spanTo, lastBack, spanOf}
+use Rattle.span.specs.Met.{Trace, traceOf, MetTold, meet, firstMet}
 use Rattle.seek.specs.Seek.{wide, middle, earlier, nextLo, nextHi, walked, SeekTold, seekTold, noSeek, bracket, seekOf}
 use Rattle.seek.specs.Step.{toldState, startTold, startAt, StepTold, refused, more, scan, done, stepOf, stepAt}
 use Rattle.seek.specs.declared.SeekState.{SeekState}
@@ -88,7 +85,8 @@ module _ (t : Trace) (fits : t .size ≤ traceLimit) (target : ℤ) where
   -- "Without one the whole seek gives none and 0 halvings; the stepped one starts lo at 2,048"
   pub without-first :
       firstMet t .isFound ≡ false → (seekOf t target ≡ seekTold 0 none) × (startAt t ≡ startTold 0 (toldState (Searching headerSize (t .size))))
-  without-first is = (sym (seek-none t fits (firstMet t) refl target is), sym (start-is t fits (firstMet t) refl) ∙ simp is)
+  unfolding seekOf startAt
+  without-first is = (simp (le-ltb traceLimit (t .size) fits, is), simp (le-ltb traceLimit (t .size) fits, is))
 
 module _ (t : Trace) (steps : Steps (t .next) (t .size)) (target : ℤ) where
   -- the whole seek's answer, by whether the trace is too long and whether there is a first record
@@ -123,24 +121,6 @@ module _ (t : Trace) (steps : Steps (t .next) (t .size)) (target : ℤ) where
   unfolding seekOf
   found-right is =
       found-by (ltb traceLimit (t .size)) (firstMet t .isFound) (bracket t target .halvings) (walked (meet t) (t .size) target (t .size) (bracket t target .lo)) refl is
-
--- the span where there is a first record
-module _ (t : Trace) (steps : Steps (t .next) (t .size)) (fits : t .size ≤ traceLimit) (is : firstMet t .isFound ≡ true) where
-  -- a search from the header's end is a search from the start
-  from-the-start : meet t 0 .isFound ≡ true
-  unfolding meet searched
-  from-the-start = is
-
-  pub span-there : (last : ℤ) × ((LastMet (meet t) last) × (spanOf t ≡ spanTo (t .millis (firstMet t .offset)) (some last)))
-  unfolding spanOf
-  span-there =
-      let back : (last : ℤ) × (lastBack (meet t) (t .size) (suc (t .size)) 1048576 ≡ some last) = reaches (meet t) (t .size) (meets t steps) (t .size) 1048576 (omega arith) (omega arith) from-the-start in (
-        back .0,
-        (
-          last-met (meet t) (t .size) (meets t steps) (suc (t .size)) 1048576 (back .0) (back .1),
-          simp (le-ltb traceLimit (t .size) fits, is, back .1) (ap (λ (z : ℤ). spanTo z (some (back .0))) (met-at t 2048 is .time)),
-        ),
-      )
 
 -- of the bytes of a trace, whatever the limits of a record's ticks
 module _ (limits : Limits) (kinds s : List ℕ) (target : ℤ) where

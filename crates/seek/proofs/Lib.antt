@@ -1,10 +1,6 @@
-pub mod Steady
-pub mod Meets
 pub mod Halvings
 pub mod Walks
-pub mod Spans
 pub mod Targets
-pub mod Answers
 pub mod Exits
 pub mod Only
 pub mod Agree

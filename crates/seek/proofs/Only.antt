@@ -2,15 +2,9 @@
 use lib.Dec.{eqb}
 use mathlib.Core.Bool.{cond}
 use mathlib.Core.Path.{_≡_, refl, ap}
-use Rattle.choice.proofs.Only.{only, number}
-use Rattle.seek.specs.Met.{FirstTold, toldFirst}
-use Rattle.seek.specs.Span.{SpanTold, toldSpan}
+use Rattle.choice.proofs.Only.{only}
 use Rattle.seek.specs.Seek.{SeekTold, toldSeek}
 use Rattle.seek.specs.Step.{StateTold, toldState, StartTold, toldStart, StepTold, toldStep}
-use Rattle.seek.specs.declared.FirstRecord.{FirstRecord}
-use Rattle.seek.specs.declared.FirstRecord.the-variants as First
-use Rattle.seek.specs.declared.Span.{Span}
-use Rattle.seek.specs.declared.Span.the-variants as Span
 use Rattle.seek.specs.declared.Found.{Found}
 use Rattle.seek.specs.declared.Found.the-variants as Found
 use Rattle.seek.specs.declared.SeekTime.{SeekTime}
@@ -21,31 +15,6 @@ use Rattle.seek.specs.declared.SeekStart.{SeekStart}
 use Rattle.seek.specs.declared.SeekStart.the-variants as Start
 use Rattle.seek.specs.declared.SeekStep.{SeekStep}
 use Rattle.seek.specs.declared.SeekStep.the-variants as Step
-
-backFirst : FirstTold → FirstRecord
-backFirst t = cond (eqb (t .refusal) 0) (cond (t .isFound) (First.At (t .offset)) First.Nothing) First.TraceTooLong
-
-sameFirst : (r : FirstRecord) → backFirst (toldFirst r) ≡ r
-unfolding backFirst
-sameFirst (First.At o) = refl
-sameFirst First.Nothing = refl
-sameFirst First.TraceTooLong = refl
-
-pub only-first : (a b : FirstRecord) → toldFirst a ≡ toldFirst b → a ≡ b
-only-first = only toldFirst backFirst sameFirst
-
-backSpan : SpanTold → Span
-backSpan t =
-    cond (eqb (t .refusal) 0) (cond (t .isFound) (Span.Times (number (t .first)) (number (t .last))) Span.Nothing) Span.TraceTooLong
-
-sameSpan : (r : Span) → backSpan (toldSpan r) ≡ r
-unfolding backSpan number
-sameSpan (Span.Times a b) = refl
-sameSpan Span.Nothing = refl
-sameSpan Span.TraceTooLong = refl
-
-pub only-span : (a b : Span) → toldSpan a ≡ toldSpan b → a ≡ b
-only-span = only toldSpan backSpan sameSpan
 
 backSeek : SeekTold → SeekTime
 backSeek t =

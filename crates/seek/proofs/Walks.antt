@@ -9,9 +9,9 @@ use mathlib.Core.Option.{Option, none, some}
 use mathlib.Core.Path.{_≡_, refl, sym, ap, _∙_}
 use native.Mathlib.Decide.{decLt}
 use native.Mathlib.Omega.{arith}
-use Rattle.seek.proofs.Steady.{steady}
-use Rattle.seek.proofs.Meets.{Meets, metAt, ends-after}
-use Rattle.seek.specs.Met.{MetTold}
+use Rattle.span.proofs.Steady.{steady}
+use Rattle.span.proofs.Meets.{Meets, metAt, ends-after}
+use Rattle.span.specs.Met.{MetTold}
 use Rattle.seek.specs.Seek.{earlier, walked}
 
 -- a place that a search met a record at, whose time is not earlier than the target

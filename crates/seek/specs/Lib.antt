@@ -1,4 +1,2 @@
-pub mod Met
 pub mod Seek
-pub mod Span
 pub mod Step

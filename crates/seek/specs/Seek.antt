@@ -7,7 +7,7 @@ use mathlib.Core.Bool.{Bool, true, false, cond, _&&_}
 use mathlib.Core.Option.{Option, none, some}
 use mathlib.Core.Path.{_≡_}
 use Rattle.layout.specs.Layout.{traceLimit}
-use Rattle.seek.specs.Met.{Trace, MetTold, meet, firstMet}
+use Rattle.span.specs.Met.{Trace, MetTold, meet, firstMet}
 use Rattle.seek.specs.declared.Found.{Found}
 use Rattle.seek.specs.declared.Found.the-variants as Found
 use Rattle.seek.specs.declared.Narrowed.{Narrowed}

@@ -6,7 +6,7 @@ use mathlib.Core.Bool.{Bool, true, false, cond}
 use mathlib.Core.Option.{Option, none, some}
 use mathlib.Core.Path.{_≡_}
 use Rattle.layout.specs.Layout.{headerSize, traceLimit}
-use Rattle.seek.specs.Met.{Trace, MetTold, meet, firstMet}
+use Rattle.span.specs.Met.{Trace, MetTold, meet, firstMet}
 use Rattle.seek.specs.Seek.{wide, middle, earlier, nextLo, nextHi, toldFound}
 use Rattle.seek.specs.declared.SeekState.{SeekState}
 use Rattle.seek.specs.declared.SeekState.the-variants.{Searching, Scanning}

@@ -1,53 +1,23 @@
-// The span of a trace and the seeks in it by time: span and seeks of cursor.rs.
+// The seeks in a trace by time: seeks of cursor.rs.
 //
 // A seek needs no index: it halves the trace, with a search for a record at each middle, down to a short span, and walks
 // the records from there. The stepped seek is the same, a halving or a record at a time, for a caller that has to fetch the
 // bytes before they are read.
 use layout::TRACE_LIMIT;
 use layout::ZLF_HEADER_SIZE;
-use resync::DEFAULT_WINDOW;
-use resync::Record;
-use resync::Search;
+use span::FirstRecord;
+use span::Met;
 ghost use mathlib.Core.Path.{_≡_};
-ghost use Prim.Native.Nat.{suc, _≤_, _-_};
 ghost use lib.Signed.{ltZ};
 ghost use lib.IntN.{pos};
 ghost use lib.ListN.{length};
-ghost use Rattle.layout.specs.Layout.{traceLimit};
-ghost use Rattle.resync.specs.Record.{plausible};
-ghost use Rattle.seek.specs.Met.{traceOf, meetIn, toldMet, firstOf, toldFirst};
-ghost use Rattle.seek.specs.Span.{lastTime, lastBack, spanTo, spanOf, toldSpan};
+ghost use Rattle.record.specs.Record.{plausible};
+ghost use Rattle.span.specs.Met.{traceOf, meetIn, toldMet};
 ghost use Rattle.seek.specs.Seek.{nextLo, nextHi, narrowed, Keeps, walked, seekOf, toldFound, toldSeek};
 ghost use Rattle.seek.specs.Step.{startAt, toldStart, stepOf, stepAt, toldStep};
 
 // Span the search narrows to before walking records one by one.
 pub const SEEK_SPAN: usize = 65_536;
-
-// The first record at or after a place: where it begins, where it ends, and its time.
-enum Met {
-    At {
-        offset: usize,
-        next_offset: usize,
-        unix_millis: u64,
-    },
-    Nothing,
-    TraceTooLong,
-    WindowTooLong,
-}
-
-// Where the first record of a trace is.
-pub enum FirstRecord {
-    At { offset: usize },
-    Nothing,
-    TraceTooLong,
-}
-
-// Capture time of the first and last record, in milliseconds.
-pub enum Span {
-    Times { first: u64, last: u64 },
-    Nothing,
-    TraceTooLong,
-}
 
 // How far a stepped seek has narrowed.
 pub enum SeekState {
@@ -109,117 +79,6 @@ fn is_earlier(millis: u64, target: i64) -> bool
     millis < (target as u64)
 }
 
-// How far hi is above lo; 0 where the bounds have crossed.
-fn distance(lo: usize, hi: usize) -> usize
-    ensures { λ r. ⌜ r ≡ hi - lo ⌝ }
-{
-    if lo < hi { hi - lo } else { 0 }
-}
-
-// One search, and one reading of the record that it finds. A boundary begins a record, so the way out of that reading is
-// never taken.
-fn record_near(kinds: &[u8; 256], s: &[u8], from: usize) -> Met
-    ensures { λ r. ⌜ toldMet r ≡ meetIn (now (kinds .entry)) (now (s .entry)) from ⌝ }
-{
-    match resync::next_record_at(kinds, s, from, DEFAULT_WINDOW) {
-        Search::Found { offset, judged: _ } => {
-            let Record::Valid { header } = resync::read_record(kinds, s, offset) else {
-                return Met::Nothing;
-            };
-            Met::At {
-                offset,
-                next_offset: header.next_offset,
-                unix_millis: header.unix_millis,
-            }
-        }
-        Search::Nothing { judged: _ } => Met::Nothing,
-        Search::TraceTooLong => Met::TraceTooLong,
-        Search::WindowTooLong => Met::WindowTooLong,
-    }
-}
-
-// Offset of the first record in the trace.
-pub fn first_record(kinds: &[u8; 256], s: &[u8]) -> FirstRecord
-    ensures { λ r. ⌜ toldFirst r ≡ firstOf (traceOf plausible (now (kinds .entry)) (now (s .entry))) ⌝ }
-{
-    if TRACE_LIMIT < s.len() {
-        return FirstRecord::TraceTooLong;
-    }
-    let Met::At {
-        offset,
-        next_offset: _,
-        unix_millis: _,
-    } = record_near(kinds, s, ZLF_HEADER_SIZE)
-    else {
-        return FirstRecord::Nothing;
-    };
-    FirstRecord::At { offset }
-}
-
-// The time of the last record met by walking from a place, or the given one.
-fn last_time(kinds: &[u8; 256], s: &[u8], from: usize, time: u64) -> u64
-    ensures { λ r. ⌜ pos r ≡ lastTime (meetIn (now (kinds .entry)) (now (s .entry))) (length (now (s .entry))) from (pos time) ⌝ }
-{
-    let mut last = time;
-    let mut at = from;
-    while at < s.len() {
-        let Met::At {
-            offset: _,
-            next_offset,
-            unix_millis,
-        } = record_near(kinds, s, at)
-        else {
-            return last;
-        };
-        last = unix_millis;
-        at = next_offset;
-    }
-    last
-}
-
-// Walks back from the end until a record is found. A walk from the start meets the first record, so that there is none to
-// be found never comes up.
-fn last_back(kinds: &[u8; 256], s: &[u8], first: u64) -> Span
-    requires { ⌜ length (now s) ≤ traceLimit ⌝ }
-    ensures { λ r. ⌜ toldSpan r ≡ spanTo (pos first) (lastBack (meetIn (now (kinds .entry)) (now (s .entry))) (length (now (s .entry))) (suc (length (now (s .entry)))) 1048576) ⌝ }
-{
-    let mut back = DEFAULT_WINDOW;
-    loop {
-        if let Met::At {
-            offset: _,
-            next_offset,
-            unix_millis,
-        } = record_near(kinds, s, distance(back, s.len())) {
-            return Span::Times {
-                first,
-                last: last_time(kinds, s, next_offset, unix_millis),
-            };
-        }
-        if s.len() <= back {
-            return Span::Nothing;
-        }
-        back = back * 4;
-    }
-}
-
-// Capture time of the first and last record, for the overall span.
-pub fn time_span(kinds: &[u8; 256], s: &[u8]) -> Span
-    ensures { λ r. ⌜ toldSpan r ≡ spanOf (traceOf plausible (now (kinds .entry)) (now (s .entry))) ⌝ }
-{
-    if TRACE_LIMIT < s.len() {
-        return Span::TraceTooLong;
-    }
-    let Met::At {
-        offset: _,
-        next_offset: _,
-        unix_millis: first,
-    } = record_near(kinds, s, ZLF_HEADER_SIZE)
-    else {
-        return Span::Nothing;
-    };
-    last_back(kinds, s, first)
-}
-
 // The bounds after a halving whose search from the middle met this. A record from there on ends above lo, so the Rust's
 // test for one that does not is left out.
 fn halved(met: Met, target: i64, lo: usize, mid: usize, hi: usize) -> Bounds
@@ -246,14 +105,14 @@ fn halved(met: Met, target: i64, lo: usize, mid: usize, hi: usize) -> Bounds
 fn search_step(kinds: &[u8; 256], s: &[u8], target: i64, lo: usize, hi: usize) -> SeekStep
     ensures { λ r. ⌜ toldStep r ≡ stepOf (meetIn (now (kinds .entry)) (now (s .entry))) (length (now (s .entry))) target (SeekState.Searching lo hi) ⌝ }
 {
-    let span = distance(lo, hi);
+    let span = span::distance(lo, hi);
     if span <= SEEK_SPAN {
         return SeekStep::Scan {
             state: SeekState::Scanning { at: lo },
         };
     }
     let mid = lo + span / 2;
-    let met = record_near(kinds, s, mid);
+    let met = span::record_near(kinds, s, mid);
     if let Met::TraceTooLong = met {
         return SeekStep::TraceTooLong;
     }
@@ -278,7 +137,7 @@ fn scan_step(kinds: &[u8; 256], s: &[u8], target: i64, at: usize) -> SeekStep
             found: Found::Nothing,
         };
     }
-    match record_near(kinds, s, at) {
+    match span::record_near(kinds, s, at) {
         Met::At {
             offset,
             next_offset,
@@ -318,43 +177,35 @@ pub fn seek_step(kinds: &[u8; 256], s: &[u8], time_ms: i64, state: SeekState) ->
 pub fn seek_start(kinds: &[u8; 256], s: &[u8]) -> SeekStart
     ensures { λ r. ⌜ toldStart r ≡ startAt (traceOf plausible (now (kinds .entry)) (now (s .entry))) ⌝ }
 {
-    if TRACE_LIMIT < s.len() {
-        return SeekStart::TraceTooLong;
-    }
     let hi = s.len();
-    let Met::At {
-        offset,
-        next_offset: _,
-        unix_millis: _,
-    } = record_near(kinds, s, ZLF_HEADER_SIZE)
-    else {
-        return SeekStart::From {
+    match span::first_record(kinds, s) {
+        FirstRecord::At { offset } => SeekStart::From {
+            state: SeekState::Searching { lo: offset, hi },
+        },
+        FirstRecord::Nothing => SeekStart::From {
             state: SeekState::Searching {
                 lo: ZLF_HEADER_SIZE,
                 hi,
             },
-        };
-    };
-    SeekStart::From {
-        state: SeekState::Searching { lo: offset, hi },
+        },
+        FirstRecord::TraceTooLong => SeekStart::TraceTooLong,
     }
 }
 
 // Narrows to a small span by halving; bounds that cross end it.
-fn narrow(kinds: &[u8; 256], s: &[u8], target: i64, first: usize, len: usize) -> Narrowed
-    requires { ⌜ len ≤ length (now s) ⌝ }
-    ensures { λ r. ⌜ Keeps r (narrowed (meetIn (now (kinds .entry)) (now (s .entry))) target (length (now (s .entry))) first len) ⌝ }
+fn narrow(kinds: &[u8; 256], s: &[u8], target: i64, first: usize) -> Narrowed
+    ensures { λ r. ⌜ Keeps r (narrowed (meetIn (now (kinds .entry)) (now (s .entry))) target (length (now (s .entry))) first (length (now (s .entry)))) ⌝ }
 {
     let mut lo = first;
-    let mut hi = len;
+    let mut hi = s.len();
     let mut halvings: usize = 0;
-    let mut span = distance(lo, hi);
+    let mut span = span::distance(lo, hi);
     while SEEK_SPAN < span {
         let mid = lo + span / 2;
-        let next = halved(record_near(kinds, s, mid), target, lo, mid, hi);
+        let next = halved(span::record_near(kinds, s, mid), target, lo, mid, hi);
         lo = next.lo;
         hi = next.hi;
-        span = distance(lo, hi);
+        span = span::distance(lo, hi);
         halvings += 1;
     }
     Narrowed { lo, halvings }
@@ -370,7 +221,7 @@ fn walk(kinds: &[u8; 256], s: &[u8], target: i64, from: usize) -> Found
             offset,
             next_offset,
             unix_millis,
-        } = record_near(kinds, s, at)
+        } = span::record_near(kinds, s, at)
         else {
             return Found::Nothing;
         };
@@ -386,22 +237,17 @@ fn walk(kinds: &[u8; 256], s: &[u8], target: i64, from: usize) -> Found
 pub fn seek_time(kinds: &[u8; 256], s: &[u8], time_ms: i64) -> SeekTime
     ensures { λ r. ⌜ toldSeek r ≡ seekOf (traceOf plausible (now (kinds .entry)) (now (s .entry))) «time_ms» ⌝ }
 {
-    if TRACE_LIMIT < s.len() {
-        return SeekTime::TraceTooLong;
+    match span::first_record(kinds, s) {
+        FirstRecord::At { offset: first } => {
+            let narrowed = narrow(kinds, s, time_ms, first);
+            let halvings = narrowed.halvings;
+            let lo = narrowed.lo;
+            let Found::At { offset } = walk(kinds, s, time_ms, lo) else {
+                return SeekTime::Nothing { halvings };
+            };
+            SeekTime::Found { offset, halvings }
+        }
+        FirstRecord::Nothing => SeekTime::Nothing { halvings: 0 },
+        FirstRecord::TraceTooLong => SeekTime::TraceTooLong,
     }
-    let Met::At {
-        offset: first,
-        next_offset: _,
-        unix_millis: _,
-    } = record_near(kinds, s, ZLF_HEADER_SIZE)
-    else {
-        return SeekTime::Nothing { halvings: 0 };
-    };
-    let narrowed = narrow(kinds, s, time_ms, first, s.len());
-    let halvings = narrowed.halvings;
-    let lo = narrowed.lo;
-    let Found::At { offset } = walk(kinds, s, time_ms, lo) else {
-        return SeekTime::Nothing { halvings };
-    };
-    SeekTime::Found { offset, halvings }
 }

@@ -2,7 +2,7 @@
 -- there whole. Assumes nothing.
 use Prim.Native.Nat.{ℕ, suc, _+_, _/_, _%_, _≤_, _<_, min}
 use lib.Dec.{ltb}
-use lib.ListN.{length, getD, set, take, drop, replicate, length-set}
+use lib.ListN.{length, getD, set, take, drop, length-set}
 use lib.Seq.{drop-cons, sets, sets-eq}
 use mathlib.Core.List.{List, [], _∷_, _++_, append-nil}
 use mathlib.Core.Path.{_≡_, refl, sym, ap, _∙_}
@@ -29,11 +29,6 @@ unfolding withText
 text-out out at h [] = record { puts = refl }
 text-out out at h (b ∷ bs) = record { puts = simp (le-ltb _ _ h) (text-out out at h bs .puts) }
 
--- no text
-pub none-put : (out : List ℕ) (at : ℕ) → Put [] out at out at
-unfolding withText
-none-put out at = record { puts = refl }
-
 -- one text after another
 pub joined : {a b out₀ out₁ out₂ : List ℕ} {r₀ r₁ r₂ : ℕ} → Put a out₀ r₀ out₁ r₁ → Put b out₁ r₁ out₂ r₂ → Put (a ++ b) out₀ r₀ out₂ r₂
 joined {a} {b} p q = record { puts = q .puts ∙ ap (λ (f : Filled). withText f b) (p .puts) ∙ sym (put-append _ a b) }
@@ -57,36 +52,19 @@ pub none-left : {text before rest out : List ℕ} {at r : ℕ} → Left text bef
 unfolding withText
 none-left l e = record { puts = ap (withText _) (sym e) ∙ l .whole }
 
--- nor is anything where the buffer is full
-pub full-left : {text before rest out : List ℕ} {at r : ℕ} → Left text before at rest out r → length out ≤ r → Put text before at out r
-full-left {rest = rest} {out = out} {r = r} l h = record { puts = text-out out r h rest .puts ∙ l .whole }
-
 -- what is left, put at once
 pub rest-put : {text before rest a out out′ : List ℕ} {at r r′ : ℕ} → Left text before at rest out r → rest ≡ a → Put a out r out′ r′ → Put text before at out′ r′
 rest-put l e p = none-left (less-left l (e ∙ sym (append-nil _)) p) refl
-
--- a byte moves the place on where there is room
-pub byte-place : {b at r : ℕ} {out out′ : List ℕ} → Put (b ∷ []) out at out′ r → at < length out → r ≡ at + 1
-unfolding withText
-byte-place {at = at} {out = out} p h = ap (λ (f : Filled). f .place) (simp (lt-ltb at (length out) h) at (p .puts))
 
 -- the bytes from a place on are the byte there and those after it
 pub next-byte : (l : List ℕ) (i : ℕ) → i < length l → drop i l ≡ (getD l i 0 ∷ []) ++ drop (i + 1) l
 next-byte l i h = rw (add-one i) (drop-cons l i 0 h)
 
--- one space less
-pub next-space : (x n m : ℕ) → n ≡ m + 1 → replicate n x ≡ (x ∷ []) ++ replicate m x
-next-space x n m e = rw (e, add-one m)
-
 -- the digits of the bytes from a place on are those of the byte there and those after it
 pub next-hex : (l : List ℕ) (i : ℕ) → i < length l
-    → hexText (drop i l) ≡ capital (getD l i 0 / 16) ∷ capital (getD l i 0 % 16) ∷ hexText (drop (i + 1) l)
+    → hexText (drop i l) ≡ (capital (getD l i 0 / 16) ∷ []) ++ (capital (getD l i 0 % 16) ∷ []) ++ hexText (drop (i + 1) l)
 unfolding hexText
 next-hex l i h = ap hexText (next-byte l i h)
-
--- none where the place is reached
-pub no-space : (x n : ℕ) → n ≡ 0 → replicate n x ≡ []
-no-space x n e = rw e
 
 -- a text that fits stands whole where it was put, with all else as it was
 stored : (text out : List ℕ) (at : ℕ) → at + length text ≤ length out → withText (filled out at) text ≡ filled (sets out at text) (at + length text)

@@ -2,11 +2,10 @@
 // put there. Bytes past the buffer's end are dropped.
 ghost use mathlib.Core.List.{[], _∷_};
 ghost use mathlib.Core.Path.{_≡_};
-ghost use Prim.Native.Nat.{_-_, _<_};
+ghost use Prim.Native.Nat.{_<_};
 ghost use lib.IntN.{natAbs};
-ghost use lib.ListN.{replicate};
 ghost use Rattle.text.specs.Put.{Put};
-ghost use Rattle.text.specs.Texts.{space, decimalText, signedText, hexText, capital};
+ghost use Rattle.text.specs.Texts.{decimalText, signedText, hexText, capital};
 
 // One byte.
 pub fn put_byte(out: &mut [u8], at: usize, b: u8) -> usize
@@ -42,7 +41,7 @@ pub fn put_decimal(out: &mut [u8], at: usize, n: u64) -> usize
 }
 
 // A number without its sign.
-fn magnitude(z: i64) -> u64
+pub fn magnitude(z: i64) -> u64
     ensures { λ r. ⌜ r ≡ natAbs z ⌝ }
 {
     if z < 0 {
@@ -83,20 +82,6 @@ pub fn put_hex(out: &mut [u8], at: usize, bytes: &[u8]) -> usize
         let high = put_byte(out, next, digit(b / 16));
         next = put_byte(out, high, digit(b % 16));
         i += 1;
-    }
-    next
-}
-
-// Spaces up to a place of the buffer; none where the text is there already.
-pub fn pad_to(out: &mut [u8], at: usize, column: usize) -> usize
-    ensures { λ r. ⌜ Put (replicate (column - at) space) (now (out .entry)) at (now (out .exit)) r ⌝ }
-{
-    let mut next = at;
-    while next < column {
-        if out.len() <= next {
-            return next;
-        }
-        next = put_byte(out, next, b' ');
     }
     next
 }

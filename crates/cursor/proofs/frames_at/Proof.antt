@@ -41,25 +41,26 @@ use denote.Triple.Table.{entered, cited}
 use denote.Triple.Clauses.{ensured, lasts}
 use denote.Triple.Walked.{says, Stays, stay-none, stay-none-ref, stay-none-slice, gave-slice, walkOf, Walks, ends-at, walked, goes-none, goes-none-ref, goes-none-slice, goes-gave-slice, walk-meets}
 use denote.Exit.{yes}
-use Rattle.resync.specs.Record.{plausible}
+use Rattle.record.specs.Record.{plausible}
 use Rattle.rows.specs.declared.Row.{Row}
 use Rattle.rows.proofs.Row as T
-use Rattle.cursor.specs.Page.{PageGiven, pageAt, Answered}
-use Rattle.cursor.specs.Step.{rowsOf, Planned}
-use Rattle.cursor.specs.declared.Page.{Page}
-use Rattle.cursor.specs.declared.Place.{Place}
-use Rattle.cursor.specs.declared.Plan.{Plan}
-use Rattle.cursor.proofs.Planning.{answered}
-use Rattle.cursor.proofs.Page as PG
-use Rattle.cursor.proofs.Page.Laws as PG′
-use Rattle.cursor.proofs.Place as P
-use Rattle.cursor.proofs.Place.Laws as P′
-use Rattle.cursor.proofs.Plan as PL
-use Rattle.cursor.proofs.Plan.Laws as PL′
-use Rattle.cursor.proofs.plan_page as plan
-use Rattle.cursor.proofs.plan_page.Symbol as plan-def
-use Rattle.cursor.proofs.plan_page.Symbol.{name as #cursor·plan-page}
-use Rattle.cursor.proofs.plan_page.Met as plan-thm
+use Rattle.paging.specs.Page.{PageGiven, pageAt}
+use Rattle.steps.specs.Step.{rowsOf}
+use Rattle.paging.specs.Plan.{Planned}
+use Rattle.paging.specs.declared.Page.{Page}
+use Rattle.steps.specs.declared.Place.{Place}
+use Rattle.paging.specs.declared.Plan.{Plan}
+use Rattle.cursor.proofs.Fills.{answered}
+use Rattle.paging.proofs.Page as PG
+use Rattle.paging.proofs.Page.Laws as PG′
+use Rattle.steps.proofs.Place as P
+use Rattle.steps.proofs.Place.Laws as P′
+use Rattle.paging.proofs.Plan as PL
+use Rattle.paging.proofs.Plan.Laws as PL′
+use Rattle.paging.proofs.plan_page as plan
+use Rattle.paging.proofs.plan_page.Symbol as plan-def
+use Rattle.paging.proofs.plan_page.Symbol.{name as #plan-page}
+use Rattle.paging.proofs.plan_page.Met as plan-thm
 use Rattle.cursor.proofs.fill as fill
 use Rattle.cursor.proofs.fill.Symbol as fill-def
 use Rattle.cursor.proofs.fill.Symbol.{name as #cursor·fill}
@@ -183,7 +184,7 @@ module _ {M : Type 1} (𝓤 : URA M) (H : Heap 𝓤) (A : Atoms 𝓤) (W : Given
   to-fill r = (((κ₀, (κ, (μ, tt))), (q₀, (q, (q′, tt))), tt, filled r, fill-vals r), tt)
 
   fill-asked : (r : Plan) → Plans r → ent 𝓤 (⋆ 𝓤 H A (Toks ∷ ‵ (owns (ShrRef (named 0) κ₀ (Array u8 256) ∷ ShrSlice (named 1) κ u8 ∷ MutSlice (named 2) μ T.the-row ∷ P.the-row ∷ usize ∷ []) (filled r) (fill-vals r)) ∷ [])) (Fill 𝓤 H A at-mem run .pre (to-fill r))
-  fill-asked r p = qed W (Toks ∷ ‵ (owns (ShrRef (named 0) κ₀ (Array u8 256) ∷ ShrSlice (named 1) κ u8 ∷ MutSlice (named 2) μ T.the-row ∷ P.the-row ∷ usize ∷ []) (filled r) (fill-vals r)) ∷ []) ∵ says ! (p .enough, p .sound) $ frame ! $ done !
+  fill-asked r p = qed W (Toks ∷ ‵ (owns (ShrRef (named 0) κ₀ (Array u8 256) ∷ ShrSlice (named 1) κ u8 ∷ MutSlice (named 2) μ T.the-row ∷ P.the-row ∷ usize ∷ []) (filled r) (fill-vals r)) ∷ []) ∵ says ! (p .enough) $ frame ! $ done !
 
   fill-asks : (r : Plan) → Plans r → Is P.the-row (r .place) (place-val (r .place) ∷ []) → r .rows < 2 ^ 64 → ent 𝓤 (⋆ 𝓤 H A (‵ OwnR ∷ Toks ∷ ‵ Own ∷ [])) (sep 𝓤 (Fill 𝓤 H A at-mem run .pre (to-fill r)) (sem 𝓤 H A Own))
   fill-asks r p is fits =
@@ -203,7 +204,7 @@ module _ {M : Type 1} (𝓤 : URA M) (H : Heap 𝓤) (A : Atoms 𝓤) (W : Given
       nothing ! $ move ! (1 ∷ 0 ∷ []) $ fjoin ! $ owned ! usize (Is usize) (uint-makes 𝓤 H A W w64) count _ (refl, c-fits) $ fjoin ! $ owned ! usize (Is usize) (uint-makes 𝓤 H A W w64) offset _ (refl, o-fits) $ fjoin ! $
       move ! (1 ∷ []) $ fsplit ! $ move ! (1 ∷ 2 ∷ 0 ∷ []) $ fjoin ! $ move ! (1 ∷ 0 ∷ []) $ fjoin ! $ frame ! $ owned ! PG.the-row (Is PG.the-row) (EL.makes PG.the-type PG′.the-plain 𝓤 H A) (r .page) _ is $ done !
 
-  module _ (C : Calls 𝓤 H) (Λ : Loops 𝓤 H) (fm : FmC 𝓤 H (W .laws) C) (known-plan : Triple 𝓤 (C #cursor·plan-page) (PlanPage 𝓤 H A at-mem run)) (known-fill : Triple 𝓤 (C #cursor·fill) (Fill 𝓤 H A at-mem run)) where
+  module _ (C : Calls 𝓤 H) (Λ : Loops 𝓤 H) (fm : FmC 𝓤 H (W .laws) C) (known-plan : Triple 𝓤 (C #plan-page) (PlanPage 𝓤 H A at-mem run)) (known-fill : Triple 𝓤 (C #cursor·fill) (Fill 𝓤 H A at-mem run)) where
     walk : Is (ShrRef (named 0) κ₀ (Array u8 256)) kinds (kv ∷ []) → Is (ShrSlice (named 1) κ u8) s (sv ∷ []) → ent 𝓤 (⋆ 𝓤 H A (Toks ∷ ‵ (owns (ShrRef (named 0) κ₀ (Array u8 256) ∷ ShrSlice (named 1) κ u8 ∷ usize ∷ usize ∷ MutSlice (named 2) μ T.the-row ∷ []) a vals) ∷ [])) (WpFn 𝓤 H C Λ code.function (kv ∷ sv ∷ vint w64 offset ∷ vint w64 count ∷ rv ∷ []) Post)
     walk k-is s-is =
         qed W (Toks ∷ ‵ (owns (ShrRef (named 0) κ₀ (Array u8 256) ∷ ShrSlice (named 1) κ u8 ∷ usize ∷ usize ∷ MutSlice (named 2) μ T.the-row ∷ []) a vals) ∷ []) ∵ enter ! C Λ code.function (kv ∷ sv ∷ vint w64 offset ∷ vint w64 count ∷ rv ∷ []) _ $
@@ -246,7 +247,7 @@ module _ {M : Type 1} (𝓤 : URA M) (H : Heap 𝓤) (A : Atoms 𝓤) (W : Given
         move ! (9 ∷ 10 ∷ []) $ free1 ! $ move ! (7 ∷ 8 ∷ []) $ free1 ! $ move ! (5 ∷ 6 ∷ []) $ free1 ! $ move ! (3 ∷ 4 ∷ []) $ free1 ! $ free0 ! $
         by ! (exits r p (parts .0) (zs .1 .1 .0) e l))))))))))))))))))))))
 
-module _ {M : Type 1} (𝓤 : URA M) (H : Heap 𝓤) (A : Atoms 𝓤) (W : Given 𝓤 H A) (at-mem : Memory → SProp 𝓤) (run : Routine → Fun 𝓤) (𝓣 : Tables 𝓤 H) (known-plan : Triple 𝓤 (𝓣 .C #cursor·plan-page) (PlanPage 𝓤 H A at-mem run)) (known-fill : Triple 𝓤 (𝓣 .C #cursor·fill) (Fill 𝓤 H A at-mem run)) where
+module _ {M : Type 1} (𝓤 : URA M) (H : Heap 𝓤) (A : Atoms 𝓤) (W : Given 𝓤 H A) (at-mem : Memory → SProp 𝓤) (run : Routine → Fun 𝓤) (𝓣 : Tables 𝓤 H) (known-plan : Triple 𝓤 (𝓣 .C #plan-page) (PlanPage 𝓤 H A at-mem run)) (known-fill : Triple 𝓤 (𝓣 .C #cursor·fill) (Fill 𝓤 H A at-mem run)) where
   frames-at-walks : Walks 𝓤 H A f.ended stayed (WpFn 𝓤 H (𝓣 .C) (𝓣 .Λ) code.function) (f.clauses 𝓤 H A at-mem run)
   frames-at-walks = walked 𝓤 H A f.ended stayed (f.clauses 𝓤 H A at-mem run) (WpFn 𝓤 H (𝓣 .C) (𝓣 .Λ) code.function)
       (λ κs. (ptr-vals, (slice-vals, (uint-vals w64, (uint-vals w64, (slice-vals, tt))))))
@@ -265,5 +266,5 @@ frames-at-spec 𝓤 H 𝓜 𝓖 𝓡 =
     entered 𝓤 H (tripleOf 𝓤 H (𝓖 .A) f.signature (f.spec 𝓤 H (𝓖 .A) (𝓜 .mem) (𝓡 .run)))
     (tables 𝓤 H 𝓜 𝓡 code.env .C) (tables 𝓤 H 𝓜 𝓡 code.env .Λ) #cursor·frames-at code.function (code.unfolded 𝓤 H 𝓜 𝓡)
     (frames-at-meets 𝓤 H (𝓖 .A) (givenOf 𝓤 H 𝓜 𝓖) (𝓜 .mem) (𝓡 .run) (tablesOf 𝓤 H 𝓜 (tables 𝓤 H 𝓜 𝓡 code.env))
-    (cited 𝓤 H (PlanPage 𝓤 H (𝓖 .A) (𝓜 .mem) (𝓡 .run)) 𝓜 𝓡 code.env #cursor·plan-page plan-def.routine code.calls-cursor·plan-page (plan-thm.met 𝓤 H 𝓜 𝓖 𝓡))
+    (cited 𝓤 H (PlanPage 𝓤 H (𝓖 .A) (𝓜 .mem) (𝓡 .run)) 𝓜 𝓡 code.env #plan-page plan-def.routine code.calls-paging·plan-page (plan-thm.met 𝓤 H 𝓜 𝓖 𝓡))
     (cited 𝓤 H (Fill 𝓤 H (𝓖 .A) (𝓜 .mem) (𝓡 .run)) 𝓜 𝓡 code.env #cursor·fill fill-def.routine code.calls-cursor·fill (fill-thm.met 𝓤 H 𝓜 𝓖 𝓡)))

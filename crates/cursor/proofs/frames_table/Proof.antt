@@ -48,23 +48,24 @@ use denote.Triple.Table.{entered, cited}
 use denote.Triple.Clauses.{ensured, lasts}
 use denote.Triple.Walked.{says, Stays, stay-none, stay-none-ref, stay-none-slice, walkOf, Walks, ends-at, walked, goes-none, goes-none-ref, goes-none-slice, walk-meets}
 use denote.Exit.{yes}
-use Rattle.resync.specs.Record.{plausible}
+use Rattle.record.specs.Record.{plausible}
 use Rattle.rows.specs.declared.Row.{Row}
 use Rattle.rows.proofs.Row as T
 use Rattle.rows.proofs.Row.Laws as T′
-use Rattle.cursor.specs.Page.{PageGiven, pageAt, Answered}
-use Rattle.cursor.specs.Step.{blankRow, blanks}
-use Rattle.cursor.specs.declared.Page.{Page}
+use Rattle.paging.specs.Page.{PageGiven, pageAt}
+use Rattle.steps.specs.Step.{blankRow}
+use Rattle.cursor.specs.Table.{Answered, blanks}
+use Rattle.paging.specs.declared.Page.{Page}
 use Rattle.cursor.specs.declared.Table.{Table}
 use Rattle.cursor.proofs.Local.{Lends, lends-local, back-local}
-use Rattle.cursor.proofs.Page as PG
-use Rattle.cursor.proofs.Page.Laws as PG′
+use Rattle.paging.proofs.Page as PG
+use Rattle.paging.proofs.Page.Laws as PG′
 use Rattle.cursor.proofs.Table as TB
 use Rattle.cursor.proofs.Table.Laws as TB′
-use Rattle.cursor.proofs.blank as blank
-use Rattle.cursor.proofs.blank.Symbol as blank-def
-use Rattle.cursor.proofs.blank.Symbol.{name as #cursor·blank}
-use Rattle.cursor.proofs.blank.Met as blank-thm
+use Rattle.steps.proofs.blank as blank
+use Rattle.steps.proofs.blank.Symbol as blank-def
+use Rattle.steps.proofs.blank.Symbol.{name as #blank}
+use Rattle.steps.proofs.blank.Met as blank-thm
 use Rattle.cursor.proofs.frames_at as frames
 use Rattle.cursor.proofs.frames_at.Symbol as frames-def
 use Rattle.cursor.proofs.frames_at.Symbol.{name as #cursor·frames-at}
@@ -95,7 +96,7 @@ fnN N R = record {
   params = 4;
   locals = local R valueLocal ∷ local (tyRef (named 0) imm (tyArray (tyInt w8) 256)) valueLocal ∷ local (sliceTy (tyRef (named 1) imm (tyInt w8))) valueLocal ∷ local word valueLocal ∷ local word valueLocal ∷ local (tyArray T′.mir N) memorySlot ∷ local PG′.mir valueLocal ∷ local T′.mir valueLocal
       ∷ local (tyRef erased mut (tyArray (pointee (T.the-row .written)) N)) valueLocal ∷ local (sliceTy (tyRef erased mut (pointee (T.the-row .written)))) valueLocal ∷ local (tyArray T′.mir N) valueLocal ∷ [];
-  body = seq (call #cursor·blank [] (place 7 []))
+  body = seq (call #blank [] (place 7 []))
       (seq (assign (place 5 []) (repeat (copy (place 7 [])) N))
       (seq (assign (place 8 []) (addrOf (place 5 [])))
       (seq (assign (place 9 []) (aggregate (copy (place 8 []) ∷ int w64 N ∷ [])))
@@ -205,7 +206,7 @@ module _ {M : Type 1} (𝓤 : URA M) (H : Heap 𝓤) (A : Atoms 𝓤) (W : Given
   abbrev Said : Page → List Row → Type 0
   Said r zs = Answered (given (length xs)) r xs zs
 
-  module _ (C : Calls 𝓤 H) (Λ : Loops 𝓤 H) (fm : FmC 𝓤 H (W .laws) C) (known-blank : Triple 𝓤 (C #cursor·blank) (Blank 𝓤 H A at-mem run)) (known-frames : Triple 𝓤 (C #cursor·frames-at) (Frames 𝓤 H A at-mem run)) where
+  module _ (C : Calls 𝓤 H) (Λ : Loops 𝓤 H) (fm : FmC 𝓤 H (W .laws) C) (known-blank : Triple 𝓤 (C #blank) (Blank 𝓤 H A at-mem run)) (known-frames : Triple 𝓤 (C #cursor·frames-at) (Frames 𝓤 H A at-mem run)) where
     walk : Is (ShrRef (named 0) κ₀ (Array u8 256)) kinds (kv ∷ []) → Is (ShrSlice (named 1) κ u8) s (sv ∷ []) → (Post : Val → SProp 𝓤)
         → ((r : Page) (zs : List Row) (us : List Val) → Is PG.the-row r (page-val r ∷ []) → Is (Array T.the-row N) zs (arrayVal us ∷ []) → Answered (given N) r xs zs → ent 𝓤 (⋆ 𝓤 H A (Tok ∷ ‵ Own ∷ [])) (Post (result r us)))
         → ent 𝓤 (⋆ 𝓤 H A (Tok ∷ ‵ (owns (ShrRef (named 0) κ₀ (Array u8 256) ∷ ShrSlice (named 1) κ u8 ∷ usize ∷ usize ∷ []) a vals) ∷ [])) (WpFn 𝓤 H C Λ (fnN N R) (kv ∷ sv ∷ vint w64 offset ∷ vint w64 count ∷ []) Post)
@@ -323,7 +324,7 @@ module _ {M : Type 1} (𝓤 : URA M) (H : Heap 𝓤) (A : Atoms 𝓤) (W : Given
       nothing ! $ owned ! usize (Is usize) (uint-makes 𝓤 H A W w64) count _ (refl, c-fits) $ fjoin ! $ owned ! usize (Is usize) (uint-makes 𝓤 H A W w64) offset _ (refl, o-fits) $ fjoin ! $
       move ! (1 ∷ []) $ fsplit ! $ move ! (1 ∷ 2 ∷ 0 ∷ []) $ fjoin ! $ move ! (1 ∷ 0 ∷ []) $ fjoin ! $ frame ! $ owned ! TB.the-row (Is TB.the-row) (LL.makes TB.the-type TB′.the-plain 𝓤 H A) (d r zs us p z) _ (table-is r zs us p z) $ done !
 
-module _ {M : Type 1} (𝓤 : URA M) (H : Heap 𝓤) (A : Atoms 𝓤) (W : Given 𝓤 H A) (at-mem : Memory → SProp 𝓤) (run : Routine → Fun 𝓤) (𝓣 : Tables 𝓤 H) (known-blank : Triple 𝓤 (𝓣 .C #cursor·blank) (Blank 𝓤 H A at-mem run)) (known-frames : Triple 𝓤 (𝓣 .C #cursor·frames-at) (Frames 𝓤 H A at-mem run)) where
+module _ {M : Type 1} (𝓤 : URA M) (H : Heap 𝓤) (A : Atoms 𝓤) (W : Given 𝓤 H A) (at-mem : Memory → SProp 𝓤) (run : Routine → Fun 𝓤) (𝓣 : Tables 𝓤 H) (known-blank : Triple 𝓤 (𝓣 .C #blank) (Blank 𝓤 H A at-mem run)) (known-frames : Triple 𝓤 (𝓣 .C #cursor·frames-at) (Frames 𝓤 H A at-mem run)) where
   frames-table-walks : Walks 𝓤 H A f.ended stayed (WpFn 𝓤 H (𝓣 .C) (𝓣 .Λ) (fnN 600 TB′.mir)) (f.clauses 𝓤 H A at-mem run)
   unfolding blanks
   frames-table-walks = walked 𝓤 H A f.ended stayed (f.clauses 𝓤 H A at-mem run) (WpFn 𝓤 H (𝓣 .C) (𝓣 .Λ) (fnN 600 TB′.mir))
@@ -343,5 +344,5 @@ frames-table-spec 𝓤 H 𝓜 𝓖 𝓡 =
     entered 𝓤 H (tripleOf 𝓤 H (𝓖 .A) f.signature (f.spec 𝓤 H (𝓖 .A) (𝓜 .mem) (𝓡 .run)))
     (tables 𝓤 H 𝓜 𝓡 code.env .C) (tables 𝓤 H 𝓜 𝓡 code.env .Λ) #cursor·frames-table code.function (code.unfolded 𝓤 H 𝓜 𝓡)
     (frames-table-meets 𝓤 H (𝓖 .A) (givenOf 𝓤 H 𝓜 𝓖) (𝓜 .mem) (𝓡 .run) (tablesOf 𝓤 H 𝓜 (tables 𝓤 H 𝓜 𝓡 code.env))
-    (cited 𝓤 H (Blank 𝓤 H (𝓖 .A) (𝓜 .mem) (𝓡 .run)) 𝓜 𝓡 code.env #cursor·blank blank-def.routine code.calls-cursor·blank (blank-thm.met 𝓤 H 𝓜 𝓖 𝓡))
+    (cited 𝓤 H (Blank 𝓤 H (𝓖 .A) (𝓜 .mem) (𝓡 .run)) 𝓜 𝓡 code.env #blank blank-def.routine code.calls-steps·blank (blank-thm.met 𝓤 H 𝓜 𝓖 𝓡))
     (cited 𝓤 H (Frames 𝓤 H (𝓖 .A) (𝓜 .mem) (𝓡 .run)) 𝓜 𝓡 code.env #cursor·frames-at frames-def.routine code.calls-cursor·frames-at (frames-thm.met 𝓤 H 𝓜 𝓖 𝓡)))

@@ -2,8 +2,8 @@
 use mathlib.Core.Path.{sym, ap}
 use lib.ListN.{take}
 use Rattle.text.proofs.Puts.{renamed}
-use Rattle.cursor.specs.Page.{toldPage}
-use Rattle.cursor.specs.declared.Page.{Page}
+use Rattle.paging.specs.Page.{toldPage}
+use Rattle.paging.specs.declared.Page.{Page}
 use Rattle.listing.specs.Listing.{rowsText, seamText}
 use borrow.Author.Needs.{needs}
 use Rattle.listing.proofs.last_page.Statement.{statement}

@@ -2,7 +2,7 @@
 use mathlib.Core.Path.{sym, ap, _∙_}
 use lib.ListN.{length}
 use Rattle.layout.specs.Layout.{headerSize}
-use Rattle.cursor.specs.Opening.{toldOpening}
+use Rattle.seam.specs.Opening.{toldOpening}
 use Rattle.text.proofs.Puts.{joined, renamed}
 use Rattle.listing.specs.Listing.{pagesText, pageOf, seamText}
 use Rattle.listing.proofs.Answers.{opened-text, refused-text}

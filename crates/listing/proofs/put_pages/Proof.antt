@@ -1,8 +1,8 @@
 -- `listing::put_pages` meets its contract: at each turn the text of the pages from `offset` on is left to be put. Assumes nothing.
 use Rattle.listing.proofs.Pages.{page-sized, goes-on, is-last, names-none}
-use Rattle.cursor.specs.Step.{blanks}
+use Rattle.cursor.specs.Table.{blanks}
 use Rattle.rows.specs.Rows.{rowsAt}
-use Rattle.resync.specs.Record.{plausible, nextAt}
+use Rattle.record.specs.Record.{plausible, nextAt}
 use native.Mathlib.Omega.{arith}
 use mathlib.Core.Option.{none}
 use borrow.Author.Needs.{needs}

@@ -1,8 +1,8 @@
 -- `listing::put_seam` meets its contract. Assumes nothing.
 use mathlib.Core.Path.{sym, ap}
 use Rattle.text.proofs.Puts.{renamed}
-use Rattle.cursor.specs.Seam.{toldSeam}
-use Rattle.cursor.specs.declared.Seam.{Seam}
+use Rattle.seam.specs.Seam.{toldSeam}
+use Rattle.seam.specs.declared.Seam.{Seam}
 use Rattle.listing.specs.Listing.{seamLine}
 use borrow.Author.Needs.{needs}
 use Rattle.listing.proofs.put_seam.Statement.{statement}

@@ -6,7 +6,7 @@ use mathlib.Core.Path.{_≡_, refl}
 use mathlib.Core.List.{flatMap}
 use lib.ListN.{length, take, drop}
 use Rattle.text.proofs.Puts.{Left, all-left, less-left, none-left}
-use Rattle.listing.specs.Lines.{rowText}
+use Rattle.lines.specs.Lines.{rowText}
 use Rattle.listing.proofs.row_lines.Statement.{statement}
 use Rattle.listing.proofs.row_lines.Tie as tie
 

@@ -2,7 +2,7 @@
 use mathlib.Core.Path.{sym, ap, _∙_}
 use Rattle.text.proofs.Puts.{renamed}
 use Rattle.resync.specs.Search.{toldSearch}
-use Rattle.listing.specs.Lines.{spaced, lineText}
+use Rattle.lines.specs.Lines.{spaced, lineText}
 use Rattle.listing.proofs.Answers.{found-text, none-text, too-long-text, window-text}
 use borrow.Author.Needs.{needs}
 use Rattle.listing.proofs.seam_line.Statement.{statement}

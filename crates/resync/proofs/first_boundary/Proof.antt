@@ -8,9 +8,9 @@ use mathlib.Core.Path.{_≡_, sym, _∙_}
 use native.Mathlib.Omega.{arith}
 use Rattle.resync.proofs.Chain.{no-record}
 use Rattle.resync.proofs.First.{one-more}
-use Rattle.resync.proofs.Valid.{invalid-none}
+use Rattle.record.proofs.Valid.{invalid-none}
 use Rattle.resync.specs.Boundary.{boundary}
-use Rattle.resync.specs.Record.{plausible, nextAt}
+use Rattle.record.specs.Record.{plausible, nextAt}
 use Rattle.resync.proofs.first_boundary.Statement.{statement}
 use Rattle.resync.proofs.first_boundary.Tie as tie
 

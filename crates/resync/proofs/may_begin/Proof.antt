@@ -2,7 +2,7 @@
 use borrow.Author.Needs.{needs}
 use native.Mathlib.Omega.{arith}
 use Rattle.resync.proofs.High.{high-ticks, high-length}
-use Rattle.resync.proofs.Ways.{no-head}
+use Rattle.record.proofs.Ways.{no-head}
 use Rattle.resync.proofs.may_begin.Statement.{statement}
 use Rattle.resync.proofs.may_begin.Tie as tie
 

@@ -5,7 +5,7 @@ use native.Mathlib.Omega.{arith}
 use lib.ListN.{length}
 use mathlib.Core.Path.{_≡_, refl, sym, ap, _∙_}
 use borrow.Author.Needs.{needs}
-use Rattle.pti.proofs.Splitting.{body-inside, next-further, next-inside}
+use Rattle.bracket.proofs.Splitting.{body-inside, next-further, next-inside}
 use Rattle.rows.specs.Frames.{ptiFrom, firstOf}
 use Rattle.rows.proofs.Pti.{past-end, no-body, is-frame, is-nothing, mpdu-fits}
 use Rattle.rows.proofs.next_pti.Statement.{statement}

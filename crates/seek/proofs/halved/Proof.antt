@@ -1,10 +1,10 @@
 -- `seek::halved` meets its contract: by whether there is a record, and whether it is earlier. Assumes nothing.
 use mathlib.Core.Bool.{true, false}
 use mathlib.Core.Path.{sym, ap, _∙_}
-use Rattle.seek.proofs.Answers.{not-at}
+use Rattle.span.proofs.Answers.{not-at}
 use Rattle.seek.proofs.Targets.{plain}
 use Rattle.seek.proofs.Exits.{unmet, is-met}
-use Rattle.seek.specs.Met.{toldMet}
+use Rattle.span.specs.Met.{toldMet}
 use borrow.Author.Needs.{needs}
 use Rattle.seek.proofs.halved.Statement.{statement}
 use Rattle.seek.proofs.halved.Tie as tie

@@ -2,34 +2,34 @@
 use mir.Syntax.{w64}
 use mir.Val.{toZ, ofZ}
 use Rattle.seek.proofs.Targets.{read-back}
-use Rattle.seek.proofs.Answers.{meets-of}
+use Rattle.span.proofs.Answers.{meets-of}
 use borrow.Author.Needs.{needs}
 use Prim.Native.Nat.{_+_, _-_, _≤_}
 use lib.ListN.{length}
 use mathlib.Core.Path.{_≡_}
 use native.Mathlib.Omega.{arith}
-use Rattle.resync.specs.Record.{plausible}
+use Rattle.record.specs.Record.{plausible}
 use Rattle.seek.proofs.Halvings.{plus, none-yet, again, narrowed-enough}
-use Rattle.seek.specs.Met.{traceOf, meet}
+use Rattle.span.specs.Met.{traceOf, meet}
 use Rattle.seek.specs.Seek.{narrowed}
 use Rattle.seek.proofs.narrow.Statement.{statement}
 use Rattle.seek.proofs.narrow.Tie as tie
 
 abbrev Inv-loop : tie.InvT-loop
-Inv-loop kinds s target first len lo₀ hi₀ halvings₀ span₀ lo hi halvings span =
+Inv-loop kinds s target first lo₀ hi₀ halvings₀ span₀ lo hi halvings span =
     (span ≡ hi - lo)
     × ((hi ≤ length s)
-    × ((halvings + span ≤ len - first)
-    × (narrowed (meet (traceOf plausible kinds s)) (toZ w64 target) (length s) first len ≡ plus halvings (narrowed (meet (traceOf plausible kinds s)) (toZ w64 target) (length s) lo hi))))
+    × ((halvings + span ≤ length s - first)
+    × (narrowed (meet (traceOf plausible kinds s)) (toZ w64 target) (length s) first (length s) ≡ plus halvings (narrowed (meet (traceOf plausible kinds s)) (toZ w64 target) (length s) lo hi))))
 
 abbrev μ-loop : tie.MeasureT-loop
-μ-loop kinds s target first len lo₀ hi₀ halvings₀ span₀ lo hi halvings span = span
+μ-loop kinds s target first lo₀ hi₀ halvings₀ span₀ lo hi halvings span = span
 
 distance-requires : tie.Need-distance-requires Inv-loop μ-loop
 distance-requires c κs = search needs
 
 loop-holds : tie.Need-loop-holds Inv-loop μ-loop
-loop-holds c = (c .distance .ensures, (c .before .before .pre, (omega (arith, c .distance .ensures), none-yet _)))
+loop-holds c = (c .distance .ensures, (omega arith, (omega (arith, c .distance .ensures), none-yet _)))
 
 add-mid : tie.Need-add-mid Inv-loop μ-loop
 add-mid c = search needs
@@ -52,7 +52,7 @@ loop-less c =
     let t = traceOf plausible (s .args .kinds .now) (s .args .s .now) in
     let n = length (s .args .s .now) in
     let l = c .before .before .before .before in
-    omega (arith, (again (meet t) n (meets-of plausible (s .args .kinds .now) (s .args .s .now)) (toZ w64 (ofZ w64 (s .args .target))) n (s .args .first) (s .args .len) (l .loop .lo) (l .loop .hi) (l .loop .halvings) (l .loop .inv .1 .1 .1) (l .loop .span) (l .loop .inv .0) (omega arith) (c .before .before .before .loop-test .taken) _ (c .before .before .record-near .ensures) _ _ (c .before .halved .ensures .0) (c .before .halved .ensures .1)) .0, c .distance2 .ensures)
+    omega (arith, (again (meet t) n (meets-of plausible (s .args .kinds .now) (s .args .s .now)) (toZ w64 (ofZ w64 (s .args .target))) n (s .args .first) n (l .loop .lo) (l .loop .hi) (l .loop .halvings) (l .loop .inv .1 .1 .1) (l .loop .span) (l .loop .inv .0) (omega arith) (c .before .before .before .loop-test .taken) _ (c .before .before .record-near .ensures) _ _ (c .before .halved .ensures .0) (c .before .halved .ensures .1)) .0, c .distance2 .ensures)
 
 loop-again : tie.Need-loop-again Inv-loop μ-loop
 loop-again c =
@@ -60,7 +60,7 @@ loop-again c =
     let t = traceOf plausible (s .args .kinds .now) (s .args .s .now) in
     let n = length (s .args .s .now) in
     let l = c .before .before .before .before in
-    let turn : _ = again (meet t) n (meets-of plausible (s .args .kinds .now) (s .args .s .now)) (toZ w64 (ofZ w64 (s .args .target))) n (s .args .first) (s .args .len) (l .loop .lo) (l .loop .hi) (l .loop .halvings) (l .loop .inv .1 .1 .1) (l .loop .span) (l .loop .inv .0) (omega arith) (c .before .before .before .loop-test .taken) _ (c .before .before .record-near .ensures) _ _ (c .before .halved .ensures .0) (c .before .halved .ensures .1) in (
+    let turn : _ = again (meet t) n (meets-of plausible (s .args .kinds .now) (s .args .s .now)) (toZ w64 (ofZ w64 (s .args .target))) n (s .args .first) n (l .loop .lo) (l .loop .hi) (l .loop .halvings) (l .loop .inv .1 .1 .1) (l .loop .span) (l .loop .inv .0) (omega arith) (c .before .before .before .loop-test .taken) _ (c .before .before .record-near .ensures) _ _ (c .before .halved .ensures .0) (c .before .halved .ensures .1) in (
       c .distance2 .ensures,
       (
         turn .1 .0 (l .loop .inv .1 .0),
@@ -73,9 +73,9 @@ returns c =
     let s = c .before .before .before .before in
     let t = traceOf plausible (s .args .kinds .now) (s .args .s .now) in
     let n = length (s .args .s .now) in
-    let kept : _ = narrowed-enough (meet t) n (meets-of plausible (s .args .kinds .now) (s .args .s .now)) (toZ w64 (ofZ w64 (s .args .target))) n (s .args .first) (s .args .len) (c .before .loop .lo) (c .before .loop .hi) (c .before .loop .halvings) (c .before .loop .inv .1 .1 .1) (omega (arith, c .before .loop .inv .0)) in (
-      read-back (s .args .target) (s .fits .target) (λ z. narrowed (meet t) z n (s .args .first) (s .args .len) .lo) _ (kept .0),
-      read-back (s .args .target) (s .fits .target) (λ z. narrowed (meet t) z n (s .args .first) (s .args .len) .halvings) _ (kept .1),
+    let kept : _ = narrowed-enough (meet t) n (meets-of plausible (s .args .kinds .now) (s .args .s .now)) (toZ w64 (ofZ w64 (s .args .target))) n (s .args .first) n (c .before .loop .lo) (c .before .loop .hi) (c .before .loop .halvings) (c .before .loop .inv .1 .1 .1) (omega (arith, c .before .loop .inv .0)) in (
+      read-back (s .args .target) (s .fits .target) (λ z. narrowed (meet t) z n (s .args .first) n .lo) _ (kept .0),
+      read-back (s .args .target) (s .fits .target) (λ z. narrowed (meet t) z n (s .args .first) n .halvings) _ (kept .1),
     )
 
 pub narrow-spec : {M : Type 1} → statement M

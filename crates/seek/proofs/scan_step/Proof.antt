@@ -2,10 +2,10 @@
 use lib.ListN.{length}
 use mathlib.Core.Bool.{true, false}
 use mathlib.Core.Path.{sym, ap, _∙_}
-use Rattle.resync.specs.Record.{plausible}
+use Rattle.record.specs.Record.{plausible}
 use Rattle.seek.proofs.Targets.{plain}
 use Rattle.seek.proofs.Exits.{scan-past, scan-not, scan-met}
-use Rattle.seek.specs.Met.{traceOf, meet, toldMet}
+use Rattle.span.specs.Met.{traceOf, meet, toldMet}
 use borrow.Author.Needs.{needs}
 use Rattle.seek.proofs.scan_step.Statement.{statement}
 use Rattle.seek.proofs.scan_step.Tie as tie

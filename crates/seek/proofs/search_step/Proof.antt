@@ -3,11 +3,11 @@ use lib.ListN.{length}
 use mathlib.Core.Path.{sym, ap, _∙_}
 use mir.Syntax.{w64}
 use mir.Val.{toZ, ofZ}
-use Rattle.resync.specs.Record.{plausible}
+use Rattle.record.specs.Record.{plausible}
 use Rattle.seek.proofs.Targets.{read-back}
-use Rattle.seek.proofs.Answers.{unrefused}
+use Rattle.span.proofs.Answers.{unrefused}
 use Rattle.seek.proofs.Exits.{narrow-enough, halving, halving-more}
-use Rattle.seek.specs.Met.{traceOf, meet, notMet, toldMet}
+use Rattle.span.specs.Met.{traceOf, meet, notMet, toldMet}
 use borrow.Author.Needs.{needs}
 use Rattle.seek.specs.Step.{stepOf}
 use Rattle.seek.specs.declared.SeekState.the-variants.{Searching}

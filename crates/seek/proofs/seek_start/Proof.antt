@@ -1,28 +1,38 @@
--- `seek::seek_start` meets its contract, by what the search for the first record met. Assumes nothing.
+-- `seek::seek_start` meets its contract, by what asking for the first record answers. Assumes nothing.
 use mathlib.Core.Path.{sym, ap, _∙_}
-use Rattle.resync.specs.Record.{plausible}
-use Rattle.seek.proofs.Answers.{not-at}
-use Rattle.seek.proofs.Exits.{start-long, start-is}
-use Rattle.seek.specs.Met.{traceOf, notMet, toldMet}
+use Rattle.record.specs.Record.{plausible}
+use Rattle.seek.proofs.Exits.{start-is}
+use Rattle.span.specs.Met.{traceOf, toldFirst}
 use borrow.Author.Needs.{needs}
 use Rattle.seek.proofs.seek_start.Statement.{statement}
 use Rattle.seek.proofs.seek_start.Tie as tie
 
-returns : tie.Need-returns
-returns c = start-long (traceOf plausible (c .before .before .args .kinds .now) (c .before .before .args .s .now)) (c .if1 .taken)
-
-record-near-requires : tie.Need-record-near-requires
-record-near-requires c κs = search needs
+first-record-requires : tie.Need-first-record-requires
+first-record-requires c κs = search needs
 
 enum-known-offset : tie.Need-enum-known-offset
 enum-known-offset c = search needs
 
+enum-told : tie.Need-enum-told
+enum-told c = search needs
+
+enum-told-2 : tie.Need-enum-told-2
+enum-told-2 c = search needs
+
+returns : tie.Need-returns
+returns c =
+    let s = c .before .before .before .before .before in
+    start-is (traceOf plausible (s .args .kinds .now) (s .args .s .now)) _ (ap toldFirst (sym (c .before .offset .given .1)) ∙ c .before .before .before .first-record .ensures)
+
 returns-2 : tie.Need-returns-2
-returns-2 c = start-is (traceOf plausible (c .before .before .before .before .args .kinds .now) (c .before .before .before .before .args .s .now)) (c .before .before .if1 .left) (notMet (not-at (c .before .record-near .result) (c .match .keys2) .0)) (sym (not-at (c .before .record-near .result) (c .match .keys2) .1) ∙ c .before .record-near .ensures)
+returns-2 c =
+    let s = c .before .before .before .before in
+    start-is (traceOf plausible (s .args .kinds .now) (s .args .s .now)) _ (ap toldFirst (sym (c .enum-told .given .1)) ∙ c .before .before .first-record .ensures)
 
 returns-3 : tie.Need-returns-3
-returns-3 c = start-is (traceOf plausible (c .before .before .before .before .before .before .args .kinds .now) (c .before .before .before .before .before .before .args .s .now)) (c .before .before .before .before .if1 .left) _ (ap toldMet (sym (c .before .offset .given .1)) ∙ c .before .before .before .record-near .ensures)
+returns-3 c =
+    let s = c .before .before .before .before in
+    start-is (traceOf plausible (s .args .kinds .now) (s .args .s .now)) _ (ap toldFirst (sym (c .enum-told2 .given .1)) ∙ c .before .before .first-record .ensures)
 
 pub seek-start-spec : {M : Type 1} → statement M
-seek-start-spec =
-    tie.close (tie.spec returns record-near-requires enum-known-offset returns-2 returns-3)
+seek-start-spec = tie.close (tie.spec first-record-requires enum-known-offset enum-told enum-told-2 returns returns-2 returns-3)

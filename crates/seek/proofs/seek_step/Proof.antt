@@ -1,10 +1,10 @@
 -- `seek::seek_step` meets its contract: a trace over the limit is refused first, and the state decides the rest. Assumes nothing.
 use lib.ListN.{length}
 use mathlib.Core.Path.{sym, ap, _∙_}
-use Rattle.resync.specs.Record.{plausible}
+use Rattle.record.specs.Record.{plausible}
 use Rattle.seek.proofs.Targets.{read-back}
 use Rattle.seek.proofs.Exits.{step-long, step-fits}
-use Rattle.seek.specs.Met.{traceOf, meet}
+use Rattle.span.specs.Met.{traceOf, meet}
 use Rattle.seek.specs.Step.{stepOf, stepAt}
 use Rattle.seek.specs.declared.SeekState.the-variants.{Searching, Scanning}
 use borrow.Author.Needs.{needs}

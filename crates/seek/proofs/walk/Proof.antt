@@ -3,16 +3,16 @@ use borrow.Author.Tests.{not-true, not-false}
 use mir.Syntax.{w64}
 use mir.Val.{toZ, ofZ}
 use Rattle.seek.proofs.Targets.{read-back}
-use Rattle.seek.proofs.Answers.{none-met, meets-of}
-use Rattle.seek.proofs.Meets.{met-after}
+use Rattle.span.proofs.Answers.{none-met, meets-of}
+use Rattle.span.proofs.Meets.{met-after}
 use Rattle.seek.proofs.Walks.{at-end, none-met-at, passes, answers}
 use borrow.Author.Needs.{needs}
 use Prim.Native.Nat.{_-_}
 use lib.ListN.{length}
 use mathlib.Core.Path.{_≡_, refl, sym, ap, _∙_}
 use native.Mathlib.Omega.{arith}
-use Rattle.resync.specs.Record.{plausible}
-use Rattle.seek.specs.Met.{traceOf, meet, toldMet}
+use Rattle.record.specs.Record.{plausible}
+use Rattle.span.specs.Met.{traceOf, meet, toldMet}
 use Rattle.seek.specs.Seek.{walked}
 use Rattle.seek.proofs.walk.Statement.{statement}
 use Rattle.seek.proofs.walk.Tie as tie

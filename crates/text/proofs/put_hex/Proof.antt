@@ -2,13 +2,17 @@
 use native.Mathlib.Nat.{mod-lt, div-lt-iff-lt-mul}
 use native.Mathlib.Omega.{arith}
 use borrow.Author.Needs.{needs}
-use Prim.Native.Nat.{_≤_, _-_}
+use Prim.Native.Nat.{ℕ, _≤_, _-_}
+use mathlib.Core.List.{List, [], _∷_}
 use mathlib.Core.Path.{_≡_, refl, ap}
 use lib.ListN.{length, drop, drop-of-length-le}
-use Rattle.text.proofs.Puts.{Left, all-left, less-left, none-left, next-hex}
+use Rattle.text.proofs.Puts.{joined, renamed, Left, all-left, less-left, none-left, next-hex}
 use Rattle.text.specs.Texts.{hexText}
 use Rattle.text.proofs.put_hex.Statement.{statement}
 use Rattle.text.proofs.put_hex.Tie as tie
+
+abbrev one : ℕ → List ℕ
+one b = b ∷ []
 
 abbrev Inv-loop : tie.InvT-loop
 Inv-loop out₀ at bytes next₀ i₀ out next i = (i ≤ length bytes) × (length out ≡ length out₀) × Left (hexText bytes) out₀ at (hexText (drop i bytes)) out next
@@ -45,9 +49,9 @@ loop-again c = (
   search needs,
   search needs,
   less-left
-      (less-left (c .before .before .before .before .before .before .before .before .before .before .before .before .loop .inv .2) (cc (next-hex (c .before .before .before .before .before .before .before .before .before .before .before .before .before .before .before .args .bytes .now) (c .before .before .before .before .before .before .before .before .before .before .before .before .loop .i) (search needs))) (c .before .before .before .before .before .before .before .put-byte .ensures))
-      refl
-      (c .before .before .put-byte2 .ensures),
+      (c .before .before .before .before .before .before .before .before .before .before .before .before .loop .inv .2)
+      (next-hex (c .before .before .before .before .before .before .before .before .before .before .before .before .before .before .before .args .bytes .now) (c .before .before .before .before .before .before .before .before .before .before .before .before .loop .i) (search needs))
+      (joined (renamed (ap one (c .before .before .before .before .before .before .before .before .digit .ensures)) (c .before .before .before .before .before .before .before .put-byte .ensures)) (renamed (ap one (c .before .before .before .digit2 .ensures)) (c .before .before .put-byte2 .ensures))),
 )
 
 same-length : tie.Need-same-length Inv-loop μ-loop

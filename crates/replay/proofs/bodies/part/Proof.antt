@@ -5,20 +5,8 @@ use borrow.Author.Needs.{needs}
 use Rattle.replay.proofs.bodies.part.Statement.{statement}
 use Rattle.replay.proofs.bodies.part.Tie as tie
 
-slice-aggregate-put-text : tie.Need-slice-aggregate-put-text
-slice-aggregate-put-text c = search needs
-
-put-text-requires : tie.Need-put-text-requires
-put-text-requires c κs = search needs
-
-put-field-requires : tie.Need-put-field-requires
-put-field-requires c κs = search needs
-
-put-field-requires-2 : tie.Need-put-field-requires-2
-put-field-requires-2 c κs = search needs
-
-same-length : tie.Need-same-length
-same-length c = search needs
+words-requires : tie.Need-words-requires
+words-requires c κs = search needs
 
 returns : tie.Need-returns
 returns c = search needs
@@ -32,8 +20,8 @@ part-rest-start c = search needs
 part-rest-end : tie.Need-part-rest-end
 part-rest-end c = search needs
 
-same-length-2 : tie.Need-same-length-2
-same-length-2 c = search needs
+words-requires-2 : tie.Need-words-requires-2
+words-requires-2 c κs = search needs
 
 returns-2 : tie.Need-returns-2
 returns-2 c = search needs
@@ -44,9 +32,6 @@ slice-aggregate-parsed c = sym (length-take-le _ _ (c .before .if2 .left))
 parsed-requires : tie.Need-parsed-requires
 parsed-requires c κs = search needs
 
-same-length-3 : tie.Need-same-length-3
-same-length-3 c = search needs
-
 returns-3 : tie.Need-returns-3
 returns-3 c = search needs
 
@@ -54,18 +39,13 @@ pub part-spec : {M : Type 1} → statement M
 part-spec =
     tie.close
     (tie.spec
-    slice-aggregate-put-text
-    put-text-requires
-    put-field-requires
-    put-field-requires-2
-    same-length
+    words-requires
     returns
     sub-rest
     part-rest-start
     part-rest-end
-    same-length-2
+    words-requires-2
     returns-2
     slice-aggregate-parsed
     parsed-requires
-    same-length-3
     returns-3)

@@ -30,8 +30,14 @@ same-length c = search needs
 returns : tie.Need-returns Inv-loop μ-loop
 returns c = search needs
 
+words-requires : tie.Need-words-requires Inv-loop μ-loop
+words-requires c κs = search needs
+
 part-requires : tie.Need-part-requires Inv-loop μ-loop
 part-requires c κs = search needs
+
+put-both-requires : tie.Need-put-both-requires Inv-loop μ-loop
+put-both-requires c κs = search needs
 
 add-i : tie.Need-add-i Inv-loop μ-loop
 add-i c = search needs
@@ -60,7 +66,9 @@ parts-spec =
     enum-told
     same-length
     returns
+    words-requires
     part-requires
+    put-both-requires
     add-i
     loop-less
     loop-again

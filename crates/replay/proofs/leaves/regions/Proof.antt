@@ -1,16 +1,14 @@
 -- `replay::leaves::regions` meets its contract: it is safe and ends. Assumes nothing.
 use Prim.Native.Nat.{_≤_, _<_, _+_, _-_}
-use mathlib.Core.Path.{_≡_}
-use lib.ListN.{length}
 use borrow.Author.Needs.{needs}
 use Rattle.replay.proofs.leaves.regions.Statement.{statement}
 use Rattle.replay.proofs.leaves.regions.Tie as tie
 
 abbrev Inv-loop : tie.InvT-loop
-Inv-loop channel lines₀ line next₀ region₀ lines next region = (region ≤ 256) × (length lines ≡ length lines₀)
+Inv-loop channel speeds₀ region₀ speeds region = region ≤ 256
 
 abbrev μ-loop : tie.MeasureT-loop
-μ-loop channel lines₀ line next₀ region₀ lines next region = 256 - region
+μ-loop channel speeds₀ region₀ speeds region = 256 - region
 
 loop-holds : tie.Need-loop-holds Inv-loop μ-loop
 loop-holds c = search needs
@@ -21,11 +19,8 @@ cast-speed-for c = search needs
 speed-for-requires : tie.Need-speed-for-requires Inv-loop μ-loop
 speed-for-requires c κs = search needs
 
-add-put-byte : tie.Need-add-put-byte Inv-loop μ-loop
-add-put-byte c = search needs
-
-put-byte-requires : tie.Need-put-byte-requires Inv-loop μ-loop
-put-byte-requires c κs = search needs
+array-write-speeds : tie.Need-array-write-speeds Inv-loop μ-loop
+array-write-speeds c = search needs
 
 add-region : tie.Need-add-region Inv-loop μ-loop
 add-region c = search needs
@@ -35,9 +30,6 @@ loop-less c = search needs
 
 loop-again : tie.Need-loop-again Inv-loop μ-loop
 loop-again c = search needs
-
-same-length : tie.Need-same-length Inv-loop μ-loop
-same-length c = search needs
 
 returns : tie.Need-returns Inv-loop μ-loop
 returns c = search needs
@@ -51,10 +43,8 @@ regions-spec =
     loop-holds
     cast-speed-for
     speed-for-requires
-    add-put-byte
-    put-byte-requires
+    array-write-speeds
     add-region
     loop-less
     loop-again
-    same-length
     returns)

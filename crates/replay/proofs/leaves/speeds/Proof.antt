@@ -7,31 +7,28 @@ use Rattle.replay.proofs.leaves.speeds.Statement.{statement}
 use Rattle.replay.proofs.leaves.speeds.Tie as tie
 
 abbrev Inv-loop : tie.InvT-loop
-Inv-loop lines₀ line next₀ channel₀ t5 lines next channel = (channel ≤ 256) × (length lines ≡ length lines₀)
+Inv-loop lines₀ line next₀ channel₀ lines next channel = (channel ≤ 256) × (length lines ≡ length lines₀)
 
 abbrev μ-loop : tie.MeasureT-loop
-μ-loop lines₀ line next₀ channel₀ t5 lines next channel = 256 - channel
+μ-loop lines₀ line next₀ channel₀ lines next channel = 256 - channel
 
 loop-holds : tie.Need-loop-holds Inv-loop μ-loop
 loop-holds c = search needs
 
-slice-aggregate-put-text : tie.Need-slice-aggregate-put-text Inv-loop μ-loop
-slice-aggregate-put-text c = search needs
+words-requires : tie.Need-words-requires Inv-loop μ-loop
+words-requires c κs = search needs
 
-put-text-requires : tie.Need-put-text-requires Inv-loop μ-loop
-put-text-requires c κs = search needs
-
-put-field-requires : tie.Need-put-field-requires Inv-loop μ-loop
-put-field-requires c κs = search needs
-
-put-byte-requires : tie.Need-put-byte-requires Inv-loop μ-loop
-put-byte-requires c κs = search needs
+put-said-requires : tie.Need-put-said-requires Inv-loop μ-loop
+put-said-requires c κs = search needs
 
 cast-regions : tie.Need-cast-regions Inv-loop μ-loop
 cast-regions c = search needs
 
 regions-requires : tie.Need-regions-requires Inv-loop μ-loop
 regions-requires c κs = search needs
+
+put-digits-requires : tie.Need-put-digits-requires Inv-loop μ-loop
+put-digits-requires c κs = search needs
 
 add-channel : tie.Need-add-channel Inv-loop μ-loop
 add-channel c = search needs
@@ -55,12 +52,11 @@ speeds-spec =
     Inv-loop
     μ-loop
     loop-holds
-    slice-aggregate-put-text
-    put-text-requires
-    put-field-requires
-    put-byte-requires
+    words-requires
+    put-said-requires
     cast-regions
     regions-requires
+    put-digits-requires
     add-channel
     loop-less
     loop-again

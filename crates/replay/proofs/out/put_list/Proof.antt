@@ -7,22 +7,28 @@ use Rattle.replay.proofs.out.put_list.Statement.{statement}
 use Rattle.replay.proofs.out.put_list.Tie as tie
 
 abbrev Inv-loop : tie.InvT-loop
-Inv-loop out₀ at list next₀ i₀ out next i = (i ≤ length list) × (length out ≡ length out₀)
+Inv-loop out₀ at s list next₀ i₀ out next i = (i ≤ 13) × (length out ≡ length out₀)
 
 abbrev μ-loop : tie.MeasureT-loop
-μ-loop out₀ at list next₀ i₀ out next i = length list - i
+μ-loop out₀ at s list next₀ i₀ out next i = 13 - i
 
 loop-holds : tie.Need-loop-holds Inv-loop μ-loop
 loop-holds c = search needs
 
-mul-put-field : tie.Need-mul-put-field Inv-loop μ-loop
-mul-put-field c = search needs
+same-length : tie.Need-same-length Inv-loop μ-loop
+same-length c = search needs
 
-shared-slice-read-put-field : tie.Need-shared-slice-read-put-field Inv-loop μ-loop
-shared-slice-read-put-field c = search needs
+returns : tie.Need-returns Inv-loop μ-loop
+returns c = search needs
 
-put-field-requires : tie.Need-put-field-requires Inv-loop μ-loop
-put-field-requires c κs = search needs
+mul-put-number : tie.Need-mul-put-number Inv-loop μ-loop
+mul-put-number c = search needs
+
+array-read-put-number : tie.Need-array-read-put-number Inv-loop μ-loop
+array-read-put-number c = search needs
+
+put-number-requires : tie.Need-put-number-requires Inv-loop μ-loop
+put-number-requires c κs = search needs
 
 add-i : tie.Need-add-i Inv-loop μ-loop
 add-i c = search needs
@@ -33,11 +39,11 @@ loop-less c = search needs
 loop-again : tie.Need-loop-again Inv-loop μ-loop
 loop-again c = search needs
 
-same-length : tie.Need-same-length Inv-loop μ-loop
-same-length c = search needs
+same-length-2 : tie.Need-same-length-2 Inv-loop μ-loop
+same-length-2 c = search needs
 
-returns : tie.Need-returns Inv-loop μ-loop
-returns c = search needs
+returns-2 : tie.Need-returns-2 Inv-loop μ-loop
+returns-2 c = search needs
 
 pub put-list-spec : {M : Type 1} → statement M
 put-list-spec =
@@ -46,11 +52,13 @@ put-list-spec =
     Inv-loop
     μ-loop
     loop-holds
-    mul-put-field
-    shared-slice-read-put-field
-    put-field-requires
+    same-length
+    returns
+    mul-put-number
+    array-read-put-number
+    put-number-requires
     add-i
     loop-less
     loop-again
-    same-length
-    returns)
+    same-length-2
+    returns-2)

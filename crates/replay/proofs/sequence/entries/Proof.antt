@@ -7,10 +7,10 @@ use Rattle.replay.proofs.sequence.entries.Statement.{statement}
 use Rattle.replay.proofs.sequence.entries.Tie as tie
 
 abbrev Inv-loop : tie.InvT-loop
-Inv-loop trace kinds lines₀ line r₀ to₀ i₀ lines r to i = (i ≤ length trace + 1) × (length lines ≡ length lines₀)
+Inv-loop most trace kinds lines₀ line r₀ to₀ i₀ lines r to i = (i ≤ most) × (length lines ≡ length lines₀)
 
 abbrev μ-loop : tie.MeasureT-loop
-μ-loop trace kinds lines₀ line r₀ to₀ i₀ lines r to i = length trace + 1 - i
+μ-loop most trace kinds lines₀ line r₀ to₀ i₀ lines r to i = most - i
 
 loop-holds : tie.Need-loop-holds Inv-loop μ-loop
 loop-holds c = search needs
@@ -18,20 +18,20 @@ loop-holds c = search needs
 next-record-requires : tie.Need-next-record-requires Inv-loop μ-loop
 next-record-requires c κs = search needs
 
+told-requires : tie.Need-told-requires Inv-loop μ-loop
+told-requires c κs = search needs
+
+put-said-requires : tie.Need-put-said-requires Inv-loop μ-loop
+put-said-requires c κs = search needs
+
 enum-known-n : tie.Need-enum-known-n Inv-loop μ-loop
 enum-known-n c = search needs
-
-ending-requires : tie.Need-ending-requires Inv-loop μ-loop
-ending-requires c κs = search needs
 
 same-length : tie.Need-same-length Inv-loop μ-loop
 same-length c = search needs
 
 returns : tie.Need-returns Inv-loop μ-loop
 returns c = search needs
-
-entry-requires : tie.Need-entry-requires Inv-loop μ-loop
-entry-requires c κs = search needs
 
 add-i : tie.Need-add-i Inv-loop μ-loop
 add-i c = search needs
@@ -56,11 +56,11 @@ entries-spec =
     μ-loop
     loop-holds
     next-record-requires
+    told-requires
+    put-said-requires
     enum-known-n
-    ending-requires
     same-length
     returns
-    entry-requires
     add-i
     loop-less
     loop-again

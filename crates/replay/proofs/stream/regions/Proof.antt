@@ -1,19 +1,14 @@
 -- `replay::stream::regions` meets its contract: it is safe and ends. Assumes nothing.
 use Prim.Native.Nat.{_≤_, _<_, _+_, _-_}
-use mathlib.Core.Path.{_≡_}
-use lib.ListN.{length}
 use borrow.Author.Needs.{needs}
 use Rattle.replay.proofs.stream.regions.Statement.{statement}
 use Rattle.replay.proofs.stream.regions.Tie as tie
 
 abbrev Inv-loop : tie.InvT-loop
-Inv-loop lines₀ line next₀ region₀ lines next region = (region ≤ 256) × (length lines ≡ length lines₀)
+Inv-loop taken₀ region₀ taken region = region ≤ 256
 
 abbrev μ-loop : tie.MeasureT-loop
-μ-loop lines₀ line next₀ region₀ lines next region = 256 - region
-
-put-byte-requires : tie.Need-put-byte-requires Inv-loop μ-loop
-put-byte-requires c κs = search needs
+μ-loop taken₀ region₀ taken region = 256 - region
 
 loop-holds : tie.Need-loop-holds Inv-loop μ-loop
 loop-holds c = search needs
@@ -24,8 +19,8 @@ cast-accepted c = search needs
 accepted-requires : tie.Need-accepted-requires Inv-loop μ-loop
 accepted-requires c κs = search needs
 
-put-byte-requires-2 : tie.Need-put-byte-requires-2 Inv-loop μ-loop
-put-byte-requires-2 c κs = search needs
+array-write-taken : tie.Need-array-write-taken Inv-loop μ-loop
+array-write-taken c = search needs
 
 add-region : tie.Need-add-region Inv-loop μ-loop
 add-region c = search needs
@@ -36,9 +31,6 @@ loop-less c = search needs
 loop-again : tie.Need-loop-again Inv-loop μ-loop
 loop-again c = search needs
 
-same-length : tie.Need-same-length Inv-loop μ-loop
-same-length c = search needs
-
 returns : tie.Need-returns Inv-loop μ-loop
 returns c = search needs
 
@@ -48,13 +40,11 @@ regions-spec =
     (tie.spec
     Inv-loop
     μ-loop
-    put-byte-requires
     loop-holds
     cast-accepted
     accepted-requires
-    put-byte-requires-2
+    array-write-taken
     add-region
     loop-less
     loop-again
-    same-length
     returns)

@@ -1,0 +1,4 @@
+pub mod Walks
+pub mod Steps
+pub mod Splitting
+pub mod Figures

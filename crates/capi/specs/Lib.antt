@@ -1,5 +1,0 @@
-pub mod Opens
-pub mod Records
-pub mod Seeks
-pub mod Pages
-pub mod Frames

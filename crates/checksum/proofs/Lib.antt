@@ -1,0 +1,3 @@
+pub mod SumSteps
+pub mod Figures
+pub mod SumLaws

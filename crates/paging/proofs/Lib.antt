@@ -1,0 +1,5 @@
+pub mod Pages
+pub mod Counting
+pub mod Filled
+pub mod Planning
+pub mod Only

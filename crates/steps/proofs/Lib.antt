@@ -1,0 +1,5 @@
+pub mod Tests
+pub mod Headers
+pub mod Differences
+pub mod Placing
+pub mod Stepping
