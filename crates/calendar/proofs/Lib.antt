@@ -1,0 +1,5 @@
+pub mod Searching
+pub mod Years
+pub mod Months
+pub mod Days
+pub mod RoundTrip
