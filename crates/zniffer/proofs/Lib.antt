@@ -1,3 +1,3 @@
 pub mod ParserLaws
 pub mod Agree
-pub mod Quick
+pub mod Filled

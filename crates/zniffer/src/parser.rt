@@ -1,16 +1,14 @@
 // The parser with its payload, by value: a step, and a run over several bytes.
 ghost use mathlib.Core.Path.{_≡_};
-ghost use mathlib.Core.Bool.{true, not, _&&_};
-ghost use Prim.Native.Nat.{_+_};
-ghost use lib.Dec.{eqb, ltb};
-ghost use Rattle.zniffer_states.specs.Tests.{reachableOf};
+ghost use Prim.Native.Nat.{_+_, _≤_, _<_, min};
+ghost use lib.ListN.{length};
+ghost use lib.Seq.{sets};
 ghost use Rattle.zniffer.specs.Parse.{zeros, coreOf, parserOf, freshParser, withByte, settle, stepOf, runFrom};
+ghost use Rattle.zniffer.specs.Held.{heldBy};
 use zniffer_core::core_step;
+use zniffer_core::run_core;
 use zniffer_numbers::Core;
 use zniffer_numbers::ParserResult;
-use zniffer_numbers::goes_on;
-use zniffer_states::reachable;
-use zniffer_states::take_byte;
 
 // The numbers of `Core`, and the payload so far, of which `count` bytes are there and no others are looked at.
 #[repr(C)]
@@ -184,100 +182,68 @@ pub fn step(p: Parser, value: u8) -> Parsed
     settled(next, filled, result)
 }
 
-// Whether an idle parser ignores a byte.
-fn ignores(c: Core, value: u8) -> bool
-    ensures { λ r. ⌜ r ≡ (eqb (c .state) 0 && (not (eqb value 0x23) && not (eqb value 0x21))) ⌝ }
+// How many bytes of a payload there are after a byte: those so far, or those that the result hands out.
+fn held(c: Core, r: ParserResult) -> u8
+    ensures { λ n. ⌜ n ≡ heldBy c r ⌝ }
 {
-    (c.state == 0) & (!(value == 0x23) & !(value == 0x21))
+    match r {
+        ParserResult::IncompleteFrame => c.count,
+        ParserResult::InvalidFrame => 0,
+        ParserResult::ValidCommand { id: _, length } => length,
+        ParserResult::ValidFrame {
+            timestamp: _,
+            channel: _,
+            speed: _,
+            region: _,
+            rssi: _,
+            length,
+        } => length,
+    }
 }
 
-// Whether a payload awaits this byte and another.
-fn has_more(c: Core) -> bool
-    ensures { λ r. ⌜ r ≡ (eqb (c .state) 3 && ltb (c .count + 1) (c .length)) ⌝ }
+fn wide(x: u8) -> usize
+    ensures { λ r. ⌜ (r ≡ x) × (r < 256) ⌝ }
 {
-    (c.state == 3) & ((c.count as u16) + 1 < (c.length as u16))
+    x as usize
 }
 
-// Several bytes, up to the first result that wants no more, at numbers that pass the test, which is not made again. The
-// payload is filled where it lies, and is not copied at each byte. Bytes that are ignored, and those of a payload but the last, are
-// taken here, where they cost little.
-fn run_reached(first: Core, payload: [u8; 255], s: &[u8]) -> Ran
-    requires { ⌜ reachableOf first ≡ true ⌝ }
-    ensures { λ r. ⌜ r ≡ runFrom 0 (now (s .entry)) (parserOf first payload) ⌝ }
+fn smaller(a: usize, b: usize) -> usize
+    ensures { λ r. ⌜ r ≡ min a b ⌝ }
 {
-    let mut c = first;
-    let mut l = payload;
+    if a < b { a } else { b }
+}
+
+// Bytes into a payload from a place on.
+fn lay(l: &mut [u8; 255], at: usize, bytes: &[u8])
+    requires { ⌜ at + length (now bytes) ≤ 255 ⌝ }
+    ensures { λ _. ⌜ now (l .exit) ≡ sets (now (l .entry)) at (now (bytes .entry)) ⌝ }
+{
     let mut i = 0;
-    while i < s.len() {
-        let b = s[i];
+    while i < bytes.len() {
+        l[at + i] = bytes[i];
         i += 1;
-        if ignores(c, b) {
-            continue;
-        }
-        if has_more(c) {
-            let at = c.count as usize;
-            l[at] = b;
-            c.count = c.count + 1;
-            continue;
-        }
-        let awaited = (c.state == 3) & (c.count < c.length);
-        if awaited {
-            let at = c.count as usize;
-            l[at] = b;
-        }
-        let t = take_byte(c, b);
-        c = t.core;
-        let result = t.result;
-        if !goes_on(result) {
-            let e = settled(c, l, result);
-            let next = e.parser;
-            let answer = e.answer;
-            return Ran {
-                parser: next,
-                out: Used { answer, used: i },
-            };
-        }
-    }
-    let e = settled(c, l, ParserResult::IncompleteFrame);
-    let next = e.parser;
-    let answer = e.answer;
-    Ran {
-        parser: next,
-        out: Used { answer, used: i },
     }
 }
 
-// Several bytes, at any parser.
+// Several bytes, at any parser. The numbers go alone; the payload's bytes are the last of those used, and are copied at once.
 pub fn run(p: Parser, s: &[u8]) -> Ran
     ensures { λ r. ⌜ r ≡ runFrom 0 (now (s .entry)) p ⌝ }
 {
     let c = core_of(p);
-    if reachable(c) {
-        let payload = p.payload;
-        return run_reached(c, payload, s);
-    }
-    let none = no_payload();
-    if s.len() == 0 {
-        return Ran {
-            parser: p,
-            out: Used {
-                answer: Answer {
-                    result: ParserResult::IncompleteFrame,
-                    payload: none,
-                },
-                used: 0,
-            },
-        };
-    }
-    let parser = fresh();
+    let mut l = p.payload;
+    let t = run_core(c, s);
+    let next = t.core;
+    let result = t.result;
+    let used = t.used;
+    let end = wide(held(next, result));
+    let n = smaller(end, used);
+    let from = used - n;
+    lay(&mut l, end - n, &s[from..used]);
+    let e = settled(next, l, result);
+    let parser = e.parser;
+    let answer = e.answer;
     Ran {
         parser,
-        out: Used {
-            answer: Answer {
-                result: ParserResult::InvalidFrame,
-                payload: none,
-            },
-            used: 1,
-        },
+        out: Used { answer, used },
     }
 }

@@ -2,10 +2,9 @@
 // bytes that were given, runs these. Carried over from `zniffer_parser.rs`.
 ghost use mathlib.Core.Path.{_≡_};
 ghost use mathlib.Core.Bool.{true};
-ghost use mathlib.Core.List.{List};
-ghost use Prim.Native.Nat.{ℕ, _+_, _≤_};
+ghost use Prim.Native.Nat.{_+_, _≤_, _<_};
 ghost use lib.ListN.{length, drop};
-ghost use Rattle.zniffer_states.specs.Tests.{reachableOf};
+ghost use Rattle.zniffer_tests.specs.Tests.{reachableOf};
 ghost use Rattle.zniffer_numbers.specs.Numbers.{freshCore};
 ghost use Rattle.zniffer_core.specs.Run.{coreStepOf, coreRunFrom};
 use zniffer_numbers::Core;
@@ -23,7 +22,7 @@ pub struct CoreRan {
 pub fn core_step(c: Core, value: u8) -> CoreStep
     ensures { λ r. ⌜ r ≡ coreStepOf c value ⌝ }
 {
-    if zniffer_states::reachable(c) {
+    if zniffer_tests::reachable(c) {
         return zniffer_states::take_byte(c, value);
     }
     let core = zniffer_numbers::fresh_core();
@@ -33,10 +32,10 @@ pub fn core_step(c: Core, value: u8) -> CoreStep
     }
 }
 
-// Numbers that some bytes were passed over with, and how many these were.
+// Numbers that some bytes were passed over with, and the place after these.
 struct Ahead {
     pub core: Core,
-    pub by: usize,
+    pub at: usize,
 }
 
 fn smaller(a: usize, b: usize) -> usize
@@ -45,19 +44,31 @@ fn smaller(a: usize, b: usize) -> usize
     if a < b { a } else { b }
 }
 
-// A payload's bytes but the last change the count alone: those among the next n are passed over at once.
-fn skip_ahead(c: Core, n: usize) -> Ahead
-    requires { ⌜ reachableOf c ≡ true ⌝ }
-    ensures { λ r. ⌜ (r .by ≤ n) × (reachableOf (r .core) ≡ true)
-        × ((k : ℕ) (bs : List ℕ) → r .by ≤ length bs → coreRunFrom k bs c ≡ coreRunFrom (k + r .by) (drop (r .by) bs) (r .core)) ⌝ }
+// Bytes that an idle parser ignores change nothing, and a payload's but the last the count alone: those from a place on are passed
+// over at once.
+fn skip_ahead(c: Core, s: &[u8], at: usize) -> Ahead
+    requires { ⌜ (reachableOf c ≡ true) × (at ≤ length (now s)) ⌝ }
+    ensures { λ r. ⌜ (r .at ≤ length (now (s .entry))) × (at ≤ r .at) × (reachableOf (r .core) ≡ true)
+        × (coreRunFrom at (drop at (now (s .entry))) c ≡ coreRunFrom (r .at) (drop (r .at) (now (s .entry))) (r .core)) ⌝ }
 {
-    if c.state != 3 {
-        return Ahead { core: c, by: 0 };
+    if c.state == 0 {
+        let rest = &s[at..];
+        let ignored = zniffer_starts::idle_bytes(rest);
+        return Ahead {
+            core: c,
+            at: at + ignored,
+        };
     }
-    let by = smaller((c.length - c.count - 1) as usize, n);
+    if c.state != 3 {
+        return Ahead { core: c, at };
+    }
+    let by = smaller((c.length - c.count - 1) as usize, s.len() - at);
     let mut next = c;
     next.count = c.count + (by as u8);
-    Ahead { core: next, by }
+    Ahead {
+        core: next,
+        at: at + by,
+    }
 }
 
 // Several bytes, up to the first result that wants no more. What a byte leaves passes the test, so it is not made again
@@ -69,20 +80,23 @@ fn run_reached(c: Core, s: &[u8]) -> CoreRan
     let mut q = c;
     let mut i = 0;
     while i < s.len() {
+        let on = skip_ahead(q, s, i);
+        q = on.core;
+        i = on.at;
+        if i == s.len() {
+            continue;
+        }
         let t = zniffer_states::take_byte(q, s[i]);
-        let next = t.core;
+        q = t.core;
         let result = t.result;
         i += 1;
         if !zniffer_numbers::goes_on(result) {
             return CoreRan {
-                core: next,
+                core: q,
                 result,
                 used: i,
             };
         }
-        let on = skip_ahead(next, s.len() - i);
-        q = on.core;
-        i += on.by;
     }
     CoreRan {
         core: q,
@@ -91,11 +105,37 @@ fn run_reached(c: Core, s: &[u8]) -> CoreRan
     }
 }
 
+fn wide(x: u8) -> usize
+    ensures { λ r. ⌜ (r ≡ x) × (r < 256) ⌝ }
+{
+    x as usize
+}
+
+// Several bytes, from a fresh parser's numbers. A command or a frame that lies whole at their start, as nearly all do, is answered at
+// once.
+pub fn run_fresh(s: &[u8]) -> CoreRan
+    ensures { λ r. ⌜ r ≡ coreRunFrom 0 (now (s .entry)) freshCore ⌝ }
+{
+    let core = zniffer_numbers::fresh_core();
+    let h = zniffer_starts::header_of(s);
+    let c = h.core;
+    let used = h.size + wide(c.length);
+    let whole = (h.size != 0) & (used <= s.len());
+    if !whole {
+        return run_reached(core, s);
+    }
+    let result = zniffer_states::whole_of(c);
+    CoreRan { core, result, used }
+}
+
 // Several bytes, from any numbers.
 pub fn run_core(c: Core, s: &[u8]) -> CoreRan
     ensures { λ r. ⌜ r ≡ coreRunFrom 0 (now (s .entry)) c ⌝ }
 {
-    if zniffer_states::reachable(c) {
+    if zniffer_tests::reachable(c) {
+        if c.state == 0 {
+            return run_fresh(s);
+        }
         return run_reached(c, s);
     }
     if s.len() == 0 {
@@ -111,12 +151,4 @@ pub fn run_core(c: Core, s: &[u8]) -> CoreRan
         result: ParserResult::InvalidFrame,
         used: 1,
     }
-}
-
-// Several bytes, from a fresh parser's numbers.
-pub fn run_fresh(s: &[u8]) -> CoreRan
-    ensures { λ r. ⌜ r ≡ coreRunFrom 0 (now (s .entry)) freshCore ⌝ }
-{
-    let c = zniffer_numbers::fresh_core();
-    run_reached(c, s)
 }

@@ -5,7 +5,7 @@ use mathlib.Core.Bool.{true, false}
 use mathlib.Core.Path.{_≡_, refl}
 use Rattle.zniffer_numbers.specs.declared.Core.{Core}
 use Rattle.zniffer_numbers.specs.declared.CoreStep.{CoreStep}
-use Rattle.zniffer_states.specs.Tests.{commandOk, typeOk, regionOk, reachableOf}
+use Rattle.zniffer_tests.specs.Tests.{commandOk, typeOk, regionOk, reachableOf}
 use Rattle.zniffer_numbers.specs.Numbers.{freshCore, goesOn}
 use Rattle.zniffer_states.specs.Step.{going, takeOf}
 use Rattle.zniffer_core.specs.Run.{coreStepOf}

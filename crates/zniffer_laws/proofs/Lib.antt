@@ -5,4 +5,5 @@ pub mod Agree
 pub mod ReachParser
 pub mod Place
 pub mod ToldOnly
+pub mod Wire
 pub mod Theorems

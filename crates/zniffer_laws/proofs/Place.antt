@@ -13,65 +13,32 @@ use Rattle.zniffer_numbers.specs.declared.Core.{Core}
 use Rattle.zniffer_numbers.specs.declared.CoreStep.{CoreStep}
 use Rattle.zniffer_numbers.specs.declared.ParserResult.{ParserResult}
 use Rattle.zniffer_numbers.specs.declared.ParserResult.the-variants.{ValidCommand, ValidFrame, IncompleteFrame, InvalidFrame}
-use Rattle.zniffer_states.specs.Tests.{commandOk, typeOk, regionOk, reachableOf}
+use Rattle.zniffer_tests.specs.Tests.{commandOk, typeOk, regionOk, reachableOf}
 use Rattle.zniffer_numbers.specs.Numbers.{goesOn}
-use Rattle.zniffer_states.specs.Step.{done, whole, payloadByte, takeOf}
+use Rattle.zniffer_states.specs.Step.{takeOf}
 use Rattle.zniffer_core.specs.Run.{coreStepOf}
 use Rattle.zniffer_laws.specs.Statements.{lengthOf}
 use Rattle.zniffer_states.proofs.Laws.{both, by-state, room}
-use Rattle.choice.proofs.Choice.{right-true as right, either, by-choice}
+use Rattle.choice.proofs.Choice.{either}
 use Rattle.zniffer_core.proofs.RunLaws.{taken}
 use Rattle.zniffer_core.proofs.Kept.{kept}
 use Rattle.zniffer.specs.declared.parser.Parser.{Parser}
 use Rattle.zniffer.specs.declared.parser.Answer.{Answer}
 use Rattle.zniffer.specs.Parse.{coreOf, parserOf, freshParser, withByte, settle, stepOf, waiting, runFrom}
+use Rattle.zniffer.specs.Held.{heldBy}
 use Rattle.zniffer.proofs.Agree.{step-result, next-of}
-use Rattle.zniffer_laws.proofs.ReachParser.{none-yet, take-none, picked-long, zeros-long}
+use Rattle.zniffer.proofs.Filled.{so-far, none-held, one-held}
+use Rattle.zniffer_laws.proofs.ReachParser.{take-none, picked-long, zeros-long}
 
 never : {X : Type 0} → true ≡ false → X
 never e = absurd (eqb-false 0 0 e refl)
 
--- a byte that is none of a payload's leaves no payload's byte counted, and gives no payload
-module _ (c : Core) (b : ℕ) (z : c .count ≡ 0) (no : eqb (c .state) 3 ≡ false) where
-  abbrev None : CoreStep → Type 0
-  None s = (s .core .count ≡ 0) × (lengthOf (s .result) ≡ 0)
-
-  abbrev Bad : None (done InvalidFrame)
-  Bad = (refl, refl)
-
-  none-taken : None (takeOf c b)
-  none-taken =
-      by-state None c b
-      (λ _. both None (eqb b 0x23) (z, refl) (both None (eqb b 0x21) (z, refl) (z, refl)))
-      (λ _. both None (commandOk b) (z, refl) Bad)
-      (λ _. both None (eqb b 0) (refl, refl) (refl, refl))
-      (λ e. absurd (eqb-false (c .state) 3 no e))
-      (λ _. both None (typeOk b) (z, refl) Bad)
-      (λ _. both None (c .«timestamp_state») (z, refl) (z, refl))
-      (λ _. (z, refl))
-      (λ _. both None (regionOk b) (z, refl) Bad)
-      (λ _. (z, refl))
-      (λ _. both None (eqb b 0x21) (z, refl) Bad)
-      (λ _. both None (eqb b 0x03) (z, refl) Bad)
-      Bad
-
--- a byte of a payload: one more is counted, or the result says as many
-module _ (c : Core) (b : ℕ) (h : reachableOf c ≡ true) (s : c .state ≡ 3) where
-  abbrev One : CoreStep → Type 0
-  One t = (goesOn (t .result) ≡ true → t .core .count ≡ c .count + 1) × (goesOn (t .result) ≡ false → lengthOf (t .result) ≡ c .count + 1)
-
-  said : lengthOf (whole c) ≡ c .length
-  said = both (λ (r : ParserResult). lengthOf r ≡ c .length) (typeOk (c .«frame_type»)) refl refl
-
-  ends : goesOn (whole c) ≡ false
-  ends = both (λ (r : ParserResult). goesOn r ≡ false) (typeOk (c .«frame_type»)) refl refl
-
-  is-payload : coreStepOf c b ≡ payloadByte c
-  unfolding coreStepOf
-  is-payload = rw (h, s)
-
-  one-taken : One (coreStepOf c b)
-  one-taken = subst One (sym is-payload) (by-choice One (eqb (c .count + 1) (c .length)) (λ e. ((λ g. never (sym g ∙ ends)), (λ _. said ∙ sym (eqb-true (c .count + 1) (c .length) e)))) (λ _. ((λ _. refl), (λ g. never g))))
+-- where no more is wanted, the bytes are those that the result hands out
+handed-out : (c : Core) (r : ParserResult) → goesOn r ≡ false → heldBy c r ≡ lengthOf r
+handed-out c IncompleteFrame e = never e
+handed-out c InvalidFrame e = refl
+handed-out c (ValidCommand i n) e = refl
+handed-out c (ValidFrame w k v g r n) e = refl
 
 -- the length that is awaited fits a byte
 module _ (c : Core) (b : ℕ) (l : c .length < 256) (fits : b < 256) where
@@ -158,22 +125,16 @@ module _ (s : List ℕ) (i : ℕ) (p : Parser) (in-s : i < length s) (fits : get
   abbrev t : CoreStep
   t = coreStepOf c b
 
-  -- what a byte that is none of a payload's gives
-  none : eqb (c .state) 3 ≡ false → (t .core .count ≡ 0) × (lengthOf (t .result) ≡ 0)
-  none other =
-      let z = eqb-true (c .count) 0 (right (eqb (c .length) 0) (eqb (c .count) 0) (none-yet c (hold .passes) other)) in
-      rw (taken c b (hold .passes)) at (none-taken c b z other)
-
   holds-core : goesOn (t .result) ≡ true → Holds s (i + 1) (parserOf (t .core) (withByte c (p .payload) b))
   holds-core g =
       let long′ = picked-long (eqb (c .state) 3 && ltb (c .count) (c .length)) (set (p .payload) (c .count) b) (p .payload) (simp length-set (hold .long)) (hold .long) in
       let size′ : t .core .length < 256 = rw (taken c b (hold .passes)) at (small-taken c b (hold .size) fits) in
       either (eqb (c .state) 3)
       (λ yes′.
-      let st = eqb-true (c .state) 3 yes′ in let n = one-taken c b (hold .passes) st .0 g in
+      let st = eqb-true (c .state) 3 yes′ in let n = sym (so-far (t .core) (t .result) g) ∙ one-held c b (hold .passes) st in
       record { passes = kept c b fits; size = size′; long = long′; from = hold .from; place = omega (arith, n, hold .place); bytes = subst (λ (m : ℕ). take m (withByte c (p .payload) b) ≡ take m (drop (hold .from) s)) (sym n) (filled st) })
       (λ other.
-      let n = none other .0 in
+      let n = sym (so-far (t .core) (t .result) g) ∙ none-held c b (hold .passes) other .1 in
       record { passes = kept c b fits; size = size′; long = long′; from = i + 1; place = omega (arith, n); bytes = take-none (t .core .count) (withByte c (p .payload) b) (drop (i + 1) s) n })
 
   pub holds-on : goesOn (stepOf p b .answer .result) ≡ true → Holds s (i + 1) (stepOf p b .parser)
@@ -185,10 +146,10 @@ module _ (s : List ℕ) (i : ℕ) (p : Parser) (in-s : i < length s) (fits : get
   stands-core g =
       either (eqb (c .state) 3)
       (λ yes′.
-      let st = eqb-true (c .state) 3 yes′ in let n = one-taken c b (hold .passes) st .1 g in
+      let st = eqb-true (c .state) 3 yes′ in let n = sym (handed-out (t .core) (t .result) g) ∙ one-held c b (hold .passes) st in
       record { from = hold .from; place = omega (arith, n, hold .place); bytes = subst (λ (m : ℕ). take m (withByte c (p .payload) b) ≡ take m (drop (hold .from) s)) (sym n) (filled st) })
       (λ other.
-      let n = none other .1 in
+      let n = sym (handed-out (t .core) (t .result) g) ∙ none-held c b (hold .passes) other .1 in
       record { from = i + 1; place = omega (arith, n); bytes = take-none (lengthOf (t .result)) (withByte c (p .payload) b) (drop (i + 1) s) n })
 
   pub stands : goesOn (stepOf p b .answer .result) ≡ false → Stands s (stepOf p b .answer) (i + 1)

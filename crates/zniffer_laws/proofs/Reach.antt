@@ -1,29 +1,30 @@
 -- The test on a parser's numbers, `reachableOf`, holds of just those parsers that some bytes from a fresh one leave. Assumes nothing.
 use Prim.Native.Nat.{ℕ, zero, suc, _<_, _+_, _*_, _/_, _%_}
 use lib.Dec.{ltb, eqb}
-use mathlib.Core.Bool.{true, false, not, _&&_, _||_, or-false, cond}
-use mathlib.Core.Path.{_≡_, refl, subst, sym}
+use mathlib.Core.Bool.{true, false, not, _&&_, _||_, or-false}
+use mathlib.Core.Path.{_≡_, refl, subst, sym, ap, _∙_}
 use mathlib.Core.Logic.{_↔_}
 use native.Mathlib.Omega.{arith}
 use native.Mathlib.Numerals.{add-one}
-use borrow.Author.Tests.{lt-ltb, eq-eqb, ne-eqb, eqb-true, eqb-false, ltb-true, not-true}
+use borrow.Author.Tests.{lt-ltb, ne-eqb, eqb-true, eqb-false, ltb-true, not-true}
 use Rattle.zniffer_numbers.specs.declared.Core.{Core}
 use Rattle.zniffer_numbers.specs.declared.CoreStep.{CoreStep}
-use Rattle.zniffer_states.specs.Tests.{commandOk, typeOk, regionOk, unfilled, noRegion, noChannel, noFrame, typed, timed, placed, framed, quiet, headed, reachableOf}
+use Rattle.zniffer_tests.specs.Tests.{commandOk, typeOk, regionOk, unfilled, noRegion, noChannel, noFrame, typed, timed, placed, framed, quiet, headed, reachableOf}
 use Rattle.zniffer_numbers.specs.Numbers.{core}
-use Rattle.zniffer_states.specs.Step.{inState, going, payloadByte, takeOf}
+use Rattle.zniffer_states.specs.Step.{going}
 use Rattle.zniffer_core.specs.Run.{coreStepOf}
 use Rattle.zniffer_laws.specs.Statements.{Reached, fresh-core, byte-more, InType}
+use Rattle.zniffer_core.proofs.RunLaws.{taken}
 use Rattle.zniffer_core.proofs.Kept.{kept, whole-half, at-0, at-1, at-2, at-3, at-4, at-5, at-6, at-7, at-8, at-9, at-10}
-use Rattle.choice.proofs.Choice.{left-true as left, right-true as right, either, by-choice}
+use Rattle.choice.proofs.Choice.{left-true as left, right-true as right, either}
 
 pub passes : {c : Core} → Reached c → reachableOf c ≡ true
 passes fresh-core = refl
-passes (byte-more {c} r b fits) = kept c b fits
+passes (byte-more {c} r b fits) = rw (taken c b (passes r)) (kept c b fits)
 
 -- the other way: bytes for each parser that passes the test
 step-to : {c d : Core} → Reached c → (b : ℕ) → b < 256 → coreStepOf c b .core ≡ d → Reached d
-step-to r b fits e = subst Reached e (byte-more r b fits)
+step-to {c} r b fits e = subst Reached (ap (λ (t : CoreStep). t .core) (taken c b (passes r)) ∙ e) (byte-more r b fits)
 
 to-1 : Reached (core 1 0 0 0 0 0 false 0 0 0 0)
 unfolding coreStepOf

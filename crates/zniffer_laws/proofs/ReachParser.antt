@@ -3,31 +3,38 @@ use Prim.Native.Nat.{ℕ, zero, suc, _<_, _+_}
 use lib.Dec.{ltb, eqb}
 use lib.ListN.{length, set, getD, take, length-set, length-replicate}
 use lib.Seq.{take-suc, take-suc-set}
-use mathlib.Core.Bool.{Bool, true, false, _&&_, and-false, or-false, cond}
+use mathlib.Core.Bool.{Bool, true, false, _&&_, cond}
 use mathlib.Core.List.{List}
 use mathlib.Core.Logic.{_↔_}
 use mathlib.Core.Path.{_≡_, refl, sym, subst, ap, _∙_}
 use native.Mathlib.Omega.{arith}
 use native.Mathlib.Numerals.{add-one}
-use borrow.Author.Tests.{lt-ltb, eqb-true, eqb-false, ltb-true}
+use borrow.Author.Tests.{lt-ltb, eqb-true, ltb-true}
 use Rattle.zniffer_numbers.specs.declared.Core.{Core}
 use Rattle.zniffer_numbers.specs.declared.ParserResult.{ParserResult}
 use Rattle.zniffer_numbers.specs.declared.ParserResult.the-variants.{ValidCommand, ValidFrame, IncompleteFrame, InvalidFrame}
-use Rattle.zniffer_states.specs.Tests.{headed, unfilled, reachableOf}
+use Rattle.zniffer_tests.specs.Tests.{headed, reachableOf}
 use Rattle.zniffer_numbers.specs.Numbers.{core, goesOn}
-use Rattle.zniffer_states.specs.Step.{going}
+use Rattle.zniffer_states.specs.Step.{going, takeOf}
 use Rattle.zniffer_core.specs.Run.{coreStepOf}
-use Rattle.zniffer_laws.specs.Statements.{Reached, fresh-core, byte-more, Left, fresh, more, Alike, InType, Bytes}
+use Rattle.zniffer_laws.specs.Statements.{plainStep, Reached, fresh-core, byte-more, Left, fresh, more, Alike, InType, Bytes}
 use Rattle.choice.proofs.Choice.{left-true as left, right-true as right, either}
 use Rattle.zniffer_laws.proofs.Reach.{reached, passes, heads, length-step, payload-step}
 use Rattle.zniffer.specs.declared.parser.Parser.{Parser}
 use Rattle.zniffer.specs.Parse.{coreOf, zeros, freshParser, withByte, settle, stepOf}
-use Rattle.zniffer.proofs.Agree.{step-core, next-of}
+use Rattle.zniffer_core.proofs.RunLaws.{taken}
+use Rattle.zniffer.proofs.Agree.{settle-core, step-core, next-of}
+use Rattle.zniffer.proofs.Filled.{none-yet}
 
--- the numbers of a parser that is left are reached
+-- the numbers of a parser that is left are reached, so that it passes the test and takes a byte as any parser does
 numbers-reached : {p : Parser} → Left p → Reached (coreOf p)
 numbers-reached fresh = fresh-core
-numbers-reached (more {p} l b fits) = rw (step-core p b) (byte-more (numbers-reached l) b fits)
+numbers-reached (more {p} l b fits) =
+    rw (settle-core (takeOf (coreOf p) b .core) (withByte (coreOf p) (p .payload) b) (takeOf (coreOf p) b .result)) (byte-more (numbers-reached l) b fits)
+
+one-byte : {p : Parser} → Left p → (b : ℕ) → b < 256 → Left (stepOf p b .parser)
+unfolding stepOf
+one-byte {p} l b fits = rw (← taken (coreOf p) b (passes (numbers-reached l))) (more l b fits)
 
 -- and each reached core is some left parser's
 abbrev Lifted : Core → Type 0
@@ -37,7 +44,7 @@ lift : {c : Core} → Reached c → Lifted c
 lift fresh-core = (freshParser, fresh, refl)
 lift (byte-more {c} r b fits) =
     let u = lift r in
-    (stepOf (u .0) b .parser, more (u .1) b fits, step-core (u .0) b ∙ ap (λ (d : Core). coreStepOf d b .core) (u .2))
+    (plainStep (u .0) b .parser, more (u .1) b fits, settle-core (takeOf (coreOf (u .0)) b .core) _ (takeOf (coreOf (u .0)) b .result) ∙ ap (λ (d : Core). takeOf d b .core) (u .2))
 
 -- every left parser has a payload of 255 places
 pub zeros-long : length zeros ≡ 255
@@ -55,11 +62,10 @@ settled-long c l (ValidCommand i n) h = zeros-long
 settled-long c l (ValidFrame w k v g r n) h = zeros-long
 
 pub long : {p : Parser} → Left p → length (p .payload) ≡ 255
-unfolding stepOf
 long fresh = zeros-long
 long (more {p} l b fits) =
     let h = long l in
-    settled-long (coreStepOf (coreOf p) b .core) (withByte (coreOf p) (p .payload) b) (coreStepOf (coreOf p) b .result)
+    settled-long (takeOf (coreOf p) b .core) (withByte (coreOf p) (p .payload) b) (takeOf (coreOf p) b .result)
     (picked-long (eqb (p .state) 3 && ltb (p .count) (p .length)) (set (p .payload) (p .count) b) (p .payload) (simp length-set h) h)
 
 -- a header, and then the bytes of a payload, one by one
@@ -77,12 +83,12 @@ module _ (i t w ch sp g r : ℕ) (head : Reached (core 2 i 0 0 t w false ch sp g
       let put : withByte (coreOf p) (p .payload) b ≡ set (p .payload) n b = rw (u .2, here) in
       let within : n < length (p .payload) = omega (arith, long (u .1), on, l-fits) in let within′ : n < length bytes = omega (arith, are .long, on, l-fits) in
       let filled : take (n + 1) (set (p .payload) n b) ≡ take (n + 1) bytes = rw (add-one n, take-suc-set (p .payload) n b within, u .3) (sym (take-suc bytes n 0 within′)) in
-      (stepOf p b .parser, more (u .1) b (are .each n), rw next (rw going-on), rw (next, put) filled)
+      (stepOf p b .parser, one-byte (u .1) b (are .each n), rw next (rw going-on), rw (next, put) filled)
 
   no-byte : 0 < l → Filled 0
   no-byte lt =
       let u = lift head in
-      (stepOf (u .0) l .parser, more (u .1) l l-fits, rw (step-core (u .0) l, u .2) (λ j. length-step i t w ch sp g r ok l lt j .core), refl)
+      (stepOf (u .0) l .parser, one-byte (u .1) l l-fits, rw (step-core (u .0) l, u .2) (λ j. length-step i t w ch sp g r ok l lt j .core), refl)
 
   next-byte : (n : ℕ) → suc n < l → Filled n → Filled (suc n)
   next-byte n lt u = let on : n + 1 < l = rw (add-one n) lt in subst Filled (add-one n) (one-more n on u)
@@ -93,10 +99,6 @@ module _ (i t w ch sp g r : ℕ) (head : Reached (core 2 i 0 0 t w false ch sp g
   fill : (n : ℕ) → n < l → Filled n
   fill zero lt = no-byte lt
   fill (suc n) lt = next-byte n lt (fill n (before n lt))
-
--- a parser that waits for no payload has none
-pub none-yet : (c : Core) → reachableOf c ≡ true → eqb (c .state) 3 ≡ false → unfilled c ≡ true
-none-yet c h e = either (unfilled c) (λ yes′. yes′) (λ no′. let z : false ≡ true = simp (no′, e, and-false, or-false) at h in absurd (eqb-false 0 0 (sym z) refl))
 
 pub take-none : (n : ℕ) (a b : List ℕ) → n ≡ 0 → take n a ≡ take n b
 take-none n a b e = rw e

@@ -10,7 +10,7 @@ use Rattle.zniffer_numbers.specs.declared.Core.{Core}
 use Rattle.zniffer_numbers.specs.declared.ParserResult.{ParserResult}
 use Rattle.zniffer_numbers.specs.declared.ParserResult.the-variants.{ValidCommand, ValidFrame, IncompleteFrame, InvalidFrame}
 use Rattle.zniffer.specs.declared.parser.Parser.{Parser}
-use Rattle.zniffer_states.specs.Tests.{typeOk, reachableOf}
+use Rattle.zniffer_tests.specs.Tests.{typeOk, reachableOf}
 use Rattle.zniffer_numbers.specs.Numbers.{goesOn}
 use Rattle.zniffer_states.specs.Step.{done}
 use Rattle.zniffer_core.specs.Run.{coreStepOf, coreRunFrom}

@@ -4,13 +4,14 @@ use lib.ListN.{length, getD, take, drop}
 use mathlib.Core.List.{List}
 use mathlib.Core.Path.{_≡_}
 use Rattle.zniffer_numbers.specs.Numbers.{freshCore}
-use Rattle.zniffer_core.specs.Run.{coreStepOf}
-use Rattle.zniffer.specs.Parse.{coreOf, freshParser, stepOf}
+use Rattle.zniffer_states.specs.Step.{takeOf}
+use Rattle.zniffer.specs.Parse.{coreOf, freshParser, withByte, settle}
 use Rattle.zniffer_numbers.specs.declared.Core.{Core}
 use Rattle.zniffer_core.specs.declared.CoreRan.{CoreRan}
 use Rattle.zniffer_numbers.specs.declared.ParserResult.{ParserResult}
 use Rattle.zniffer_numbers.specs.declared.ParserResult.the-variants.{ValidCommand, ValidFrame, IncompleteFrame, InvalidFrame}
 use Rattle.zniffer.specs.declared.parser.Answer.{Answer}
+use Rattle.zniffer.specs.declared.parser.Parsed.{Parsed}
 use Rattle.zniffer.specs.declared.parser.Parser.{Parser}
 use Rattle.zniffer.specs.declared.parser.Ran.{Ran}
 
@@ -25,14 +26,18 @@ lengthOf InvalidFrame = 0
 lengthOf (ValidCommand i n) = n
 lengthOf (ValidFrame w k v g r n) = n
 
+-- one byte by its state alone, without the test on the parser's numbers
+abbrev pub plainStep : Parser → ℕ → Parsed
+plainStep p b = settle (takeOf (coreOf p) b .core) (withByte (coreOf p) (p .payload) b) (takeOf (coreOf p) b .result)
+
 -- the numbers, and the parsers, that some bytes from a fresh one leave
 pub data Reached : Core → Type 0 where
   fresh-core : Reached freshCore
-  byte-more : {c : Core} → Reached c → (b : ℕ) → b < 256 → Reached (coreStepOf c b .core)
+  byte-more : {c : Core} → Reached c → (b : ℕ) → b < 256 → Reached (takeOf c b .core)
 
 pub data Left : Parser → Type 0 where
   fresh : Left freshParser
-  more : {p : Parser} → Left p → (b : ℕ) → b < 256 → Left (stepOf p b .parser)
+  more : {p : Parser} → Left p → (b : ℕ) → b < 256 → Left (plainStep p b .parser)
 
 -- parsers that are alike: "unused payload places not looked at"
 pub record Alike (p q : Parser) : Type 0 where
