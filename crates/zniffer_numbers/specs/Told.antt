@@ -1,4 +1,4 @@
--- A result told in numbers: which case it is, and what the case holds. That it tells two results apart is `told-only` of proofs/ToldOnly.antt.
+-- A result told in numbers: which case it is, and what the case holds. That it tells two results apart is `told-only` of zniffer_laws/proofs/ToldOnly.antt.
 use Prim.Native.Nat.{ℕ}
 use Rattle.zniffer_numbers.specs.declared.ParserResult.{ParserResult}
 use Rattle.zniffer_numbers.specs.declared.ParserResult.the-variants.{ValidCommand, ValidFrame, IncompleteFrame, InvalidFrame}

@@ -1,5 +1,5 @@
 // A whole header at once: a command's three bytes, or a frame's ten, whose length is not 0. What they leave of a fresh parser is what
-// they leave one after the other, without a step for each (`headed` of zniffer_core's proofs).
+// they leave one after the other, without a step for each (`heads` of zniffer_core/proofs/Whole.antt).
 ghost use mathlib.Core.Path.{_≡_};
 ghost use Rattle.zniffer_starts.specs.Header.{noHead, commandHead, frameHead, headOf};
 use zniffer_numbers::Core;

@@ -1,5 +1,5 @@
 -- Which numbers the Zniffer's bytes may be, and the test on a parser's numbers: whether some bytes from a fresh parser leave them.
--- That the test says just this is `test-says-left` of proofs/Theorems.antt.
+-- That the test says just this is `test-says-left` of zniffer_laws/proofs/Theorems.antt.
 use Prim.Native.Nat.{ℕ, _%_}
 use lib.Dec.{ltb, leb, eqb}
 use mathlib.Core.Bool.{Bool, not, _&&_, _||_}
