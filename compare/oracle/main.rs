@@ -184,6 +184,31 @@ fn stepped(c: &mut TraceCursor<Opened<'_>>, target: i64, s: SeekState, halvings:
     c.seek_step(target, s).unwrap()
 }
 
+/// How many of the bytes a call uses: the Rust does not say it (01 adds it), so a second parser counts them.
+fn used(q: &mut Parser, bytes: &[u8]) -> usize {
+    let stop = bytes.iter().position(|v| q.parse(*v) != ParserResult::IncompleteFrame);
+    stop.map_or(bytes.len(), |n| n + 1)
+}
+
+/// Pieces of a stream to one parser, a line for each call. What a call leaves of its piece goes to the next.
+fn pieces(mut rest: &[u8]) -> String {
+    let (mut p, mut q, mut text) = (Parser::new(), Parser::new(), String::new());
+    while !rest.is_empty() {
+        let n = u16::from_le_bytes(rest[..2].try_into().unwrap()).into();
+        let (mut piece, after) = rest[2..].split_at(n);
+        loop {
+            let used = used(&mut q, piece);
+            text += &format!("\n  {used} {} {}", lines::result(&p.parse_bytes(piece.to_vec())), lines::left(&p));
+            piece = &piece[used..];
+            if piece.is_empty() {
+                break;
+            }
+        }
+        rest = after;
+    }
+    text
+}
+
 /// One page, or pages from `at` on, each from the place that the last one named: a line for each row, then one for the page.
 fn pages(trace: &[u8], mut at: u64, count: u64, chain: bool) -> String {
     let mut out = String::new();
@@ -279,13 +304,12 @@ fn answer(op: u8, i: &mut Cases, trace: &mut Vec<u8>, out: &mut Vec<u8>) {
             format!("{}{text}", lines::left(&p))
         }
         b'y' => {
-            // the Rust does not say how many bytes it used (01 adds it): a second parser counts them
             let b = i.bytes();
             let (mut p, mut q) = (Parser::new(), Parser::new());
-            let stop = b.iter().position(|v| q.parse(*v) != ParserResult::IncompleteFrame);
-            let used = stop.map_or(b.len(), |n| n + 1);
+            let used = used(&mut q, &b);
             format!("{} {used} {}", lines::result(&p.parse_bytes(b)), lines::left(&p))
         }
+        b'w' => pieces(&i.bytes()),
         b'T' => {
             *trace = i.bytes();
             trace.len().to_string()

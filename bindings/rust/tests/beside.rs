@@ -293,6 +293,29 @@ fn parse(i: &mut Cases, bytes: &[u8], at_once: bool) {
     }
 }
 
+/// Pieces of a stream to one parser on either side, each call with the number of bytes used; what a call leaves of its piece goes to the next.
+fn pieces(i: &mut Cases, mut rest: &[u8]) {
+    let (mut rust, mut binding) = (zniff_core::zniffer_parser::Parser::new(), zlf::zniffer_parser::Parser::new());
+    while !rest.is_empty() {
+        let n = u16::from_le_bytes(rest[..2].try_into().unwrap()).into();
+        let (mut piece, after) = rest[2..].split_at(n);
+        loop {
+            let (mut of_rust, mut used) = ("more".into(), 0);
+            while used < piece.len() && of_rust == "more" {
+                of_rust = result(rust.parse(piece[used]));
+                used += 1;
+            }
+            let (r, n) = binding.parse_some(piece);
+            i.same((of_rust, used), (new_result(r), n));
+            piece = &piece[used..];
+            if piece.is_empty() {
+                break;
+            }
+        }
+        rest = after;
+    }
+}
+
 fn answer(i: &mut Cases, trace: &[u8]) {
     let old_trace = || SliceSource::new(trace);
     let new_trace = zlf::Trace::new(trace);
@@ -325,6 +348,10 @@ fn answer(i: &mut Cases, trace: &[u8]) {
         b'z' | b'y' => {
             let bytes = i.bytes();
             parse(i, &bytes, i.letter == b'y');
+        }
+        b'w' => {
+            let bytes = i.bytes();
+            pieces(i, &bytes);
         }
         b'r' => {
             let at = i.u64();

@@ -49,7 +49,7 @@ fn fixed_length(letter: u8) -> usize
         b'P' => 6,
         b'c' => 3,
         b'C' | b'G' | b'q' | b's' | b'o' => 1,
-        b'b' | b'p' | b'z' | b'y' | b'T' | b'g' => 5,
+        b'b' | b'p' | b'z' | b'y' | b'w' | b'T' | b'g' => 5,
         _ => 0,
     }
 }
@@ -101,7 +101,7 @@ fn told(letter: u8, case: &[u8], trace: &[u8]) -> Said {
 // Whether a case's answer may have many lines, or a digit for each of many bytes.
 fn is_long(letter: u8) -> bool {
     match letter {
-        b'q' | b'Q' | b'f' | b'F' | b'K' | b'C' | b'G' | b'p' | b'z' | b'y' => true,
+        b'q' | b'Q' | b'f' | b'F' | b'K' | b'C' | b'G' | b'p' | b'z' | b'y' | b'w' => true,
         _ => false,
     }
 }
@@ -144,6 +144,9 @@ fn spread(letter: u8, case: &[u8], lines: &mut [u8], line: usize) -> usize {
     }
     if letter == b'z' {
         return stream::one_by_one(case, lines, line);
+    }
+    if letter == b'w' {
+        return stream::in_pieces(case, lines, line);
     }
     stream::at_once(case, lines, line)
 }

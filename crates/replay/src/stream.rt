@@ -1,8 +1,9 @@
-// Cases G, z and y: the regions that the Zniffer parser takes, and bytes to a fresh parser, one by one and at once.
+// Cases G, z, y and w: the regions that the Zniffer parser takes, and bytes to a fresh parser, one by one, at once and in pieces.
 use crate::out;
 use crate::out::Said;
 use zniffer::Answer;
 use zniffer::Parser;
+use zniffer::Ran;
 use zniffer_numbers::ParserResult;
 
 // 1 for each byte that is a region.
@@ -161,4 +162,72 @@ pub fn at_once(case: &[u8], lines: &mut [u8], line: usize) -> usize {
     let next = out::put_both(lines, line, result(a), count);
     let ran = zniffer::run(zniffer::fresh(), s);
     out::put_said(lines, next, left(ran.parser))
+}
+
+// Where the bytes of the next call stand, and how many they are.
+struct Piece {
+    pub at: usize,
+    pub len: usize,
+}
+
+// So many bytes are left of the last piece; where none are, the next piece, whose length stands before it.
+fn next_piece(s: &[u8], at: usize, left: usize) -> Piece {
+    if left == 0 {
+        let len = layout::u16_at(s, at) as usize;
+        return Piece {
+            at: std::num::wrapping_add_usize(at, 2),
+            len,
+        };
+    }
+    Piece { at, len: left }
+}
+
+// The bytes of a piece, as many as are there.
+fn part(s: &[u8], at: usize, len: usize) -> &[u8] {
+    if s.len() < at {
+        return s;
+    }
+    let rest = &s[at..];
+    if rest.len() < len {
+        return rest;
+    }
+    &rest[..len]
+}
+
+// The line of a call: the bytes used, the result, and the parser that is left.
+fn called(t: Ran, lines: &mut [u8], line: usize) -> usize {
+    let u = t.out;
+    let a = u.answer;
+    let count = out::words(out::LINE, 1, u.used as u64, 0, 0);
+    let next = out::put_both(lines, line, count, result(a));
+    out::put_said(lines, next, left(t.parser))
+}
+
+// A line for each call. Each takes a byte, or a piece without any, whose length has two: there are no more calls than bytes.
+fn calls(s: &[u8], lines: &mut [u8], line: usize) -> usize {
+    let mut to = line;
+    let mut p = zniffer::fresh();
+    let mut at = 0;
+    let mut left = 0;
+    let mut i = 0;
+    while i < s.len() {
+        i += 1;
+        if s.len() <= at {
+            return to;
+        }
+        let next = next_piece(s, at, left);
+        let t = zniffer::run(p, part(s, next.at, next.len));
+        to = called(t, lines, to);
+        p = t.parser;
+        let u = t.out;
+        at = std::num::wrapping_add_usize(next.at, u.used);
+        left = std::num::wrapping_sub_usize(next.len, u.used);
+    }
+    to
+}
+
+// Bytes in pieces, to a parser that goes on.
+pub fn in_pieces(case: &[u8], lines: &mut [u8], line: usize) -> usize {
+    let s = out::bytes_of(case);
+    calls(s, lines, line)
 }
