@@ -3,6 +3,7 @@ use crate::Cases;
 use crate::leaves::TICKS_2000;
 use crate::random::Random;
 use crate::traces::{Trace, ask, ends, good_header, place, record, with_damage};
+use crate::zniffer;
 
 /// Counts that a page is asked for: the small ones, a page's usual one, and more than there are.
 const COUNTS: [u64; 8] = [0, 1, 1, 2, 3, 7, 64, 100_000];
@@ -83,5 +84,23 @@ pub fn example(cases: &mut Cases, _: &mut Random, most: usize) {
             }
             ask(cases, b'o', &[]);
         }
+    }
+}
+
+/// Traces of Zniffer records, some hundreds in each: all pages of them, and pages from some of the records.
+pub fn zniffer(cases: &mut Cases, r: &mut Random, most: usize) {
+    let few = most < 100;
+    for payloads in zniffer::payloads(r, few).chunks(if few { 1_000 } else { 300 }) {
+        let mut t = Trace { bytes: good_header(), starts: Vec::new() };
+        for (n, p) in payloads.iter().enumerate() {
+            t.starts.push(t.bytes.len());
+            t.bytes.extend(record(TICKS_2000 + 10_000 * n as u64, r.byte(), p.len() as i32, p, ends(3)[0]));
+        }
+        cases.block(b'T', &t.bytes);
+        ask(cases, b'F', &[2048, 64]);
+        for _ in 0..if few { 2 } else { 40 } {
+            ask(cases, b'f', &[r.of(&t.starts) as u64, r.of(&COUNTS)]);
+        }
+        ask(cases, b'u', &[2048]);
     }
 }
