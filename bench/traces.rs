@@ -31,7 +31,7 @@ fn end(kind: u8) -> u8 {
 }
 
 /// A header with the right version and sum.
-fn header() -> Vec<u8> {
+pub fn header() -> Vec<u8> {
     let mut h = vec![0; 2046];
     h[..4].copy_from_slice(&ZLF_VERSION.to_le_bytes());
     let mut sum = 0x1D0Fu16;
@@ -84,17 +84,37 @@ fn payload(kind: Kind, n: u64, noise: &mut Noise) -> (Vec<u8>, u8) {
     }
 }
 
-/// A trace of records of a kind, of about so many bytes: the records of a round, over and over, each with its own time.
+/// Records of a kind, the same ones each time: those of a round, over and over, each with its own time.
+pub struct Records {
+    round: Vec<(Vec<u8>, u8)>,
+    pub n: u64,
+}
+
+impl Records {
+    pub fn new(kind: Kind) -> Self {
+        let mut noise = Noise(1);
+        Records { round: (0..1000).map(|n| payload(kind, n, &mut noise)).collect(), n: 0 }
+    }
+
+    /// The next one, at the end of a trace.
+    pub fn next(&mut self, trace: &mut Vec<u8>) {
+        let (payload, kind) = &self.round[self.n as usize % self.round.len()];
+        numbered(trace, self.n, *kind, payload);
+        self.n += 1;
+    }
+}
+
+/// The n-th record of a trace, at its end.
+pub fn numbered(trace: &mut Vec<u8>, n: u64, kind: u8, payload: &[u8]) {
+    record(trace, TICKS + n * APART, n as u8 & 0x8F, payload.len() as i32, payload, end(kind));
+}
+
+/// A trace of records of a kind, of about so many bytes.
 pub fn of(kind: Kind, size: usize) -> Vec<u8> {
-    let mut noise = Noise(1);
-    let round: Vec<_> = (0..1000).map(|n| payload(kind, n, &mut noise)).collect();
-    let mut trace = Vec::with_capacity(size + 4096);
+    let (mut trace, mut records) = (Vec::with_capacity(size + 4096), Records::new(kind));
     trace.extend(header());
-    let mut n = 0;
     while trace.len() < size {
-        let (payload, kind) = &round[n as usize % round.len()];
-        record(&mut trace, TICKS + n * APART, n as u8 & 0x8F, payload.len() as i32, payload, end(*kind));
-        n += 1;
+        records.next(&mut trace);
     }
     trace
 }
