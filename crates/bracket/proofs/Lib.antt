@@ -2,3 +2,4 @@ pub mod Walks
 pub mod Steps
 pub mod Splitting
 pub mod Figures
+pub mod Only

@@ -1,1 +1,2 @@
 pub mod Bracket
+pub mod Told

@@ -3,3 +3,4 @@ pub mod Years
 pub mod Months
 pub mod Days
 pub mod RoundTrip
+pub mod Only

@@ -3,3 +3,4 @@ pub mod Parts
 pub mod Shapes
 pub mod Mpdus
 pub mod Figures
+pub mod Only

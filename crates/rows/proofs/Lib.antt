@@ -3,3 +3,4 @@ pub mod Pti
 pub mod Zniffer
 pub mod Walk
 pub mod Inside
+pub mod Only
