@@ -24,7 +24,7 @@ abbrev pub nextYearAfter : ℕ → ℕ → Bool
 nextYearAfter day n = ltb day (daysOf (n + 1))
 
 -- the years that have gone by on a day: the first number for which the next new year comes after the day. A year has a day at least, so
--- that as many turns as days are enough
+-- that as many turns as days are enough (`years-are` of proofs/Years.antt)
 unfoldable pub yearsGone : ℕ → ℕ
 yearsGone day = firstFrom (nextYearAfter day) day 0
 

@@ -26,7 +26,7 @@ afterPage p next end = cond (p .told .isMore) (next (p .told .next)) end
 unfoldable pub rowsText : ℕ → List Row → List ℕ → List ℕ
 rowsText refusal rows rest = cond (eqb refusal 0) (flatMap rowText rows ++ rest) (refusalText refusal)
 
--- 01: "until no next place is named"; so many pages at most
+-- 01: "until no next place is named"; so many pages at most. As many as the trace has bytes are enough (`all-listed` of proofs/Turns.antt)
 unfoldable pub pagesText : (ℕ → PageGiven) → List ℕ → ℕ → ℕ → List ℕ
 pagesText page end zero at = []
 pagesText page end (suc turns) at =

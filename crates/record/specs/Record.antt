@@ -33,7 +33,7 @@ ticksIn limits ticks = leb (limits .low) ticks && leb ticks (limits .high)
 abbrev pub lengthIn : ℕ → Bool
 lengthIn n = leb 1 n && leb n 1048576
 
--- 4: "the end byte's offset is below the trace's length"
+-- 4: "the end byte's offset .. is below the trace's length"
 abbrev pub endInside : List ℕ → ℕ → Bool
 endInside s at = ltb (endPlace s at) (length s)
 

@@ -116,7 +116,7 @@ module _ (t : Trace) (steps : Steps (t .next) (t .size)) (target : ℤ) where
       let a : Answer (meet t) target r = found-met (meet t) (t .size) (meets t steps) target (t .size) (bracket t target .lo) r e in
       met-right t target (a .from) r (a .is-met) (a .place) (a .late)
 
-  -- "A found offset is a boundary, and its time is not earlier than the target"
+  -- what is found is a boundary, and its record is not earlier than the target. 01: "until one is not earlier than the target (the answer)"
   pub found-right : seekOf t target .isFound ≡ true → NotEarlier t target (seekOf t target .offset)
   unfolding seekOf
   found-right is =

@@ -44,7 +44,8 @@ halvedNone lo hi = record { lo = lo; hi = hi; halvings = 0 }
 abbrev pub counted : Bracket → Bracket
 counted b = record { lo = b .lo; hi = b .hi; halvings = b .halvings + 1 }
 
--- the halvings. The steps are counted, and each takes at least one byte off hi - lo
+-- the halvings. The steps are counted, and each takes at least one byte off hi - lo: as many steps as hi - lo has bytes are enough, and more
+-- change nothing (`more-steps` of proofs/Halvings.antt)
 unfoldable pub narrowed : (ℕ → MetTold) → ℤ → ℕ → ℕ → ℕ → Bracket
 narrowed met target zero lo hi = halvedNone lo hi
 narrowed met target (suc k) lo hi =
@@ -57,7 +58,8 @@ abbrev pub Keeps : Narrowed → Bracket → Type 0
 Keeps r b = (r .lo ≡ b .lo) × (r .halvings ≡ b .halvings)
 
 -- 01: "Then from lo, and again from each record's end, a search gives the next record, hi no longer counting, until one is not earlier
--- than the target (the answer), or none is found or the trace ends (none)". The steps are counted as in the span
+-- than the target (the answer), or none is found or the trace ends (none)". The steps are counted: as many as there are bytes
+-- from the place on are enough, and more change nothing (`more-steps` of proofs/Walks.antt)
 unfoldable pub walked : (ℕ → MetTold) → ℕ → ℤ → ℕ → ℕ → Option ℕ
 walked met n target zero at = none
 walked met n target (suc k) at =

@@ -10,13 +10,15 @@ use Rattle.span.specs.declared.Span.{Span}
 use Rattle.span.specs.declared.Span.the-variants as Span
 
 -- 01: "the last record met by walking, a search for each": its time, or the given one where none is met. The steps are counted, and
--- there are never more records than bytes
+-- there are never more records than bytes: as many steps as there are bytes from the place on are enough, and more change nothing
+-- (`last-more-steps` of proofs/Spans.antt)
 unfoldable pub lastTime : (ℕ → MetTold) → ℕ → ℕ → ℤ → ℤ
 lastTime met zero at time = time
 lastTime met (suc k) at time = cond (met at .isFound) (lastTime met k (met at .end) (met at .millis)) time
 
 -- 01: "from 1,048,576 bytes before the end; if none is met, four times as far back, up to the whole trace": n is the length, and a
--- place `back` before the end is the start where the trace is no longer than that
+-- place `back` before the end is the start where the trace is no longer than that. The steps are counted: one, and as many as there are bytes
+-- before that place, are enough, and more change nothing (`back-more-steps` of proofs/Spans.antt)
 unfoldable pub lastBack : (ℕ → MetTold) → ℕ → ℕ → ℕ → Option ℤ
 lastBack met n zero back = none
 lastBack met n (suc k) back =

@@ -13,7 +13,7 @@ unfoldable pub digitsOf : ℕ → ℕ → List ℕ
 digitsOf zero n = []
 digitsOf (suc turns) n = cond (ltb n 10) ((48 + n) ∷ []) (digitsOf turns (n / 10) ++ ((48 + n % 10) ∷ []))
 
--- a number in decimal. It has no more digits than it counts, so that these are turns enough
+-- a number in decimal. It has no more digits than it counts, so that these are turns enough (`decimal-is` of proofs/Decimals.antt)
 unfoldable pub decimalText : ℕ → List ℕ
 decimalText n = digitsOf (suc n) n
 
