@@ -56,10 +56,14 @@ module _ (p : List ℕ) where
   unfolding nextRecord
   inside at = inside-walk (length p) at
 
-  -- the body ends before the next place, so it lies inside the payload; the next place is further on
+  -- the body begins further on and ends before the next place, so it lies inside the payload; the next place is further on
   module _ (from at len next : ℕ) (e : nextRecord p from ≡ Body at len next) where
     met-inside : Inside p from (Body at len next)
     met-inside = subst (Inside p from) e (inside from)
+
+    pub body-further : from < at
+    unfolding Inside
+    body-further = met-inside .0
 
     pub body-inside : at + len ≤ length p
     unfolding Inside

@@ -128,8 +128,8 @@ fn last_rows(
 }
 
 // A page's rows, and the seam check's line; or a refused page's number and no more. With a table of 600 rows no page of an input is
-// refused: before its last record a page has 63 rows at most, and that record has 533 at most, since a frame takes 11 bytes or more
-// of the 5,884 that an input can have after the header.
+// refused with 7: a frame takes 10 bytes or more of the 5,884 that an input can have after the header (`never-7` of
+// listing_laws/proofs/Room.antt).
 fn last_page(out: &mut [u8], at: usize, kinds: &[u8; 256], s: &[u8], t: Table) -> usize
     ensures { λ r. ⌜ Put (rowsText (toldPage (t .page) .refusal) (take (toldPage (t .page) .size) (t .rows)) (seamText (now (kinds .entry)) (now (s .entry)))) (now (out .entry)) at (now (out .exit)) r ⌝ }
 {
