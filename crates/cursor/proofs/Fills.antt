@@ -11,7 +11,6 @@ use lib.ListN.{length, set, drop, length-append}
 use Rattle.record.specs.Record.{plausible}
 use Rattle.rows.specs.declared.Row.{Row}
 use Rattle.steps.specs.declared.Place.{Place}
-use Rattle.steps.specs.declared.Step.{Step}
 use Rattle.paging.specs.Page.{PageGiven}
 use Rattle.steps.specs.Step.{stepOf, rowsOf}
 use Rattle.paging.specs.Plan.{Planned}

@@ -9,6 +9,7 @@ use mathlib.Core.Option.{Option, some}
 use mathlib.Core.Path.{_≡_, refl, sym, ap, _∙_}
 use native.Mathlib.Omega.{arith}
 use Rattle.ticks.specs.Ticks.{unixMillis}
+use Rattle.layout.specs.Layout.{traceLimit}
 use Rattle.layout.specs.Fields.{ticksAt, lengthAt, outgoingAt, kindAt, nextPlace}
 use Rattle.record.proofs.Answers.{is-one, next-one}
 use Rattle.record.proofs.Valid.{record-steps, valid-inside, valid-grows, valid-time}
@@ -16,8 +17,8 @@ use Rattle.record.specs.Record.{Limits, plausible, valid, nextAt, RecordTold, f
 use Rattle.record.specs.declared.RecordHeader.{RecordHeader}
 use Rattle.record.specs.declared.Record.{Record}
 use Rattle.record.specs.declared.Record.the-variants.{Valid}
-use Rattle.steps.specs.Step.{latest, testAt}
-use Rattle.steps.proofs.Tests.{test-some, time-most}
+use Rattle.steps.specs.Step.{latest}
+use Rattle.steps.proofs.Tests.{told-fits, time-most}
 use Rattle.rows.specs.Rows.{payloadAt, framesAt}
 use Rattle.rows.specs.Frames.{Placed, framesFrom}
 
@@ -27,7 +28,7 @@ pub record Header (kinds s : List ℕ) (at : ℕ) (h : RecordHeader) : Type 0 wh
   pub outgoing : h .«is_outcome» ≡ outgoingAt s at
   pub millis : pos (h .«unix_millis») ≡ unixMillis (ticksAt s at)
   pub next : nextAt plausible kinds s at ≡ some (h .«next_offset»)
-  pub test : testAt plausible kinds s at ≡ some (h .«next_offset»)
+  pub fits : length s ≤ traceLimit
   pub timed : h .«unix_millis» ≤ latest
   pub next-is : h .«next_offset» ≡ at + 14 + h .«payload_len»
   pub inside : at + 14 + h .«payload_len» ≤ length s
@@ -46,7 +47,7 @@ module _ (kinds s : List ℕ) (at : ℕ) (r : Record) (told : toldRecord r ≡ r
         outgoing = ap (λ (x : RecordTold). x .outgoing) (one .1);
         millis = ap (λ (x : RecordTold). x .millis) (one .1);
         next = next-one plausible kinds s at t e refl;
-        test = test-some plausible kinds s at (h .«next_offset») t e refl (next-one plausible kinds s at t e refl);
+        fits = told-fits plausible kinds s at t e refl;
         timed =
             rw (sym (ap (λ (x : RecordTold). natAbs (x .millis)) (one .1)))
             at (time-most plausible kinds s (omega arith) (omega arith) at (h .«next_offset») (next-one plausible kinds s at t e refl));

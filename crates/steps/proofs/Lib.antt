@@ -3,3 +3,4 @@ pub mod Headers
 pub mod Differences
 pub mod Placing
 pub mod Stepping
+pub mod Only

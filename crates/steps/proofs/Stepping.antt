@@ -1,6 +1,6 @@
 -- The next row from a place on: what the code has at each way out and after each record. Assumes nothing.
 use Prim.Native.Nat.{ℕ, _+_, _≤_, _<_}
-use borrow.Author.Tests.{ltb-false, le-ltb}
+use borrow.Author.Tests.{ltb-false, lt-ltb, le-ltb}
 use lib.Dec.{ltb}
 use lib.IntN.{ℤ, pos, natAbs}
 use lib.ListN.{length}
@@ -9,57 +9,62 @@ use mathlib.Core.List.{List}
 use mathlib.Core.Option.{Option, none, some}
 use mathlib.Core.Path.{_≡_, refl, sym, ap, _∙_}
 use native.Mathlib.Omega.{arith}
+use Rattle.choice.proofs.Choice.{either, by-choice}
 use Rattle.ticks.specs.Ticks.{unixMillis}
 use Rattle.layout.specs.Fields.{ticksAt, kindAt, outgoingAt}
 use Rattle.pti.specs.declared.PtiFrame.{PtiFrame}
-use Rattle.record.specs.Record.{Limits, plausible}
+use Rattle.layout.specs.Layout.{traceLimit}
+use Rattle.record.proofs.Valid.{record-steps}
+use Rattle.record.specs.Record.{Limits, plausible, nextAt}
 use Rattle.rows.specs.Frames.{firstOf}
 use Rattle.rows.proofs.Walk.{one-more}
 use Rattle.rows.specs.Rows.{framesAt, payloadAt}
 use Rattle.rows.specs.declared.Next.{Next}
 use Rattle.rows.specs.declared.Next.the-variants as Next
-use Rattle.steps.specs.Step.{latest, Sound, unsound, movedTo, rowStepAt, rowStep, noStep, testAt, stepAt, stepEnd, stepFrom, stepOn, stepOf, startPlace}
+use Rattle.steps.specs.Step.{latest, Sound, unsound, movedTo, startPlace, StepTold, rowStepAt, rowStep, noStep, nowhere, unlessLong, stepAt, stepEnd, stepFrom, stepOn, stepOf}
 use Rattle.steps.specs.declared.Place.{Place}
-use Rattle.steps.specs.declared.Step.{Step}
 use Rattle.seam.proofs.Walks.{stopped, goes-on, by-records}
-use Rattle.steps.proofs.Tests.{test-steps, some-next, time-most}
+use Rattle.steps.proofs.Tests.{time-most}
 
 module _ (limits : Limits) (kinds s : List ℕ) (p : Place) where
-  pub step-stops : (at index position : ℕ) → testAt limits kinds s at ≡ none → stepFrom limits kinds s p at index position ≡ noStep (movedTo p at index position)
+  pub step-stops : (at index position : ℕ) → nextAt limits kinds s at ≡ none → stepFrom limits kinds s p at index position ≡ noStep (movedTo p at index position)
   unfolding stepFrom
   step-stops at index position e =
-      ap (λ (f : ℕ → ℕ → Step). f index position) (stopped (testAt limits kinds s) (length s) (test-steps limits kinds s) (stepEnd p) (stepAt kinds s p) (length s) at e)
+      ap (λ (f : ℕ → ℕ → StepTold). f index position) (stopped (nextAt limits kinds s) (length s) (record-steps limits kinds s) (stepEnd p) (stepAt kinds s p) (length s) at e)
 
-  pub step-on : (at m index position : ℕ) → testAt limits kinds s at ≡ some m
+  pub step-on : (at m index position : ℕ) → nextAt limits kinds s at ≡ some m
       → stepFrom limits kinds s p at index position ≡ rowStep s (movedTo p at index position) (firstOf (framesAt kinds s at index)) (stepFrom limits kinds s p m 0 0)
   unfolding stepFrom
   step-on at m index position e =
-      ap (λ (f : ℕ → ℕ → Step). f index position) (goes-on (testAt limits kinds s) (length s) (test-steps limits kinds s) (stepEnd p) (stepAt kinds s p) at m e)
+      ap (λ (f : ℕ → ℕ → StepTold). f index position) (goes-on (nextAt limits kinds s) (length s) (record-steps limits kinds s) (stepEnd p) (stepAt kinds s p) at m e)
 
 -- the place reached, q, gives the same step as the place given, p
 module _ (limits : Limits) (kinds s : List ℕ) (p q : Place) (inv : stepOn limits kinds s q ≡ stepOn limits kinds s p) where
   abbrev at : ℕ
   at = q .offset
 
-  abbrev test : ℕ → Option ℕ
-  test = testAt limits kinds s
+  abbrev next : ℕ → Option ℕ
+  next = nextAt limits kinds s
 
-  pub no-row : test at ≡ none → (r : Step) → r ≡ noStep q → r ≡ stepOn limits kinds s p
+  pub no-row : (length s ≤ traceLimit → next at ≡ none) → (r : StepTold) → r ≡ unlessLong s (noStep q) → r ≡ unlessLong s (stepOn limits kinds s p)
   unfolding stepOn
-  no-row e r r-is = r-is ∙ sym (step-stops limits kinds s q at (q .index) (q .position) e) ∙ inv
+  no-row e r r-is =
+      r-is
+      ∙ either (ltb traceLimit (length s)) (λ yes′. rw yes′)
+      (λ no′. ap (unlessLong s) (sym (step-stops limits kinds s q at (q .index) (q .position) (e (ltb-false traceLimit (length s) no′))) ∙ inv))
 
-  pub a-row : (m millis next : ℕ) (f : PtiFrame) → test at ≡ some m → pos millis ≡ unixMillis (ticksAt s at) → Next.Frame f next ≡ firstOf (framesAt kinds s at (q .index))
-      → (r : Step) → r ≡ rowStepAt q (pos millis) millis f next → r ≡ stepOn limits kinds s p
+  pub a-row : length s ≤ traceLimit → (m millis after : ℕ) (f : PtiFrame) → next at ≡ some m → pos millis ≡ unixMillis (ticksAt s at) → Next.Frame f after ≡ firstOf (framesAt kinds s at (q .index))
+      → (r : StepTold) → r ≡ rowStepAt q (pos millis) millis f after → r ≡ unlessLong s (stepOn limits kinds s p)
   unfolding stepOn
-  a-row m millis next f e t n r r-is =
+  a-row fits m millis after f e t n r r-is =
       let time : millis ≡ natAbs (unixMillis (ticksAt s at)) = ap natAbs t in
-      let here : stepOn limits kinds s p ≡ rowStepAt q (unixMillis (ticksAt s at)) (natAbs (unixMillis (ticksAt s at))) f next =
+      let here : stepOn limits kinds s p ≡ rowStepAt q (unixMillis (ticksAt s at)) (natAbs (unixMillis (ticksAt s at))) f after =
       sym inv ∙ step-on limits kinds s q at m (q .index) (q .position) e ∙ rw (sym n) in
-      r-is ∙ (λ j. rowStepAt q (t j) (time j) f next) ∙ sym here
+      r-is ∙ (λ j. rowStepAt q (t j) (time j) f after) ∙ sym here ∙ rw (le-ltb traceLimit (length s) fits)
 
-  pub onward : (m : ℕ) → test at ≡ some m → Next.End ≡ firstOf (framesAt kinds s at (q .index)) → (next : Place) → next ≡ movedTo q m 0 0 → stepOn limits kinds s next ≡ stepOn limits kinds s p
+  pub onward : (m : ℕ) → next at ≡ some m → Next.End ≡ firstOf (framesAt kinds s at (q .index)) → (there : Place) → there ≡ movedTo q m 0 0 → stepOn limits kinds s there ≡ stepOn limits kinds s p
   unfolding stepOn stepFrom
-  onward m e n next next-is = rw next-is (sym (step-on limits kinds s q at m (q .index) (q .position) e ∙ rw (sym n)) ∙ inv)
+  onward m e n there there-is = rw there-is (sym (step-on limits kinds s q at m (q .index) (q .position) e ∙ rw (sym n)) ∙ inv)
 
 -- what the code has to show where it makes a row
 pub row-asked : (kinds s : List ℕ) (p : Place) → Sound p → (millis next : ℕ) (f : PtiFrame) → millis ≤ latest
@@ -87,13 +92,21 @@ pub is-sound : (p : Place) → Sound p → unsound p ≡ false
 is-sound p s = simp (le-ltb (p .index) (p .position) (s .counted), le-ltb latest (p .previous) (s .timed))
 
 module _ (limits : Limits) (kinds s : List ℕ) (p : Place) where
-  pub none-from : unsound p ≡ true → (r : Step) → r ≡ noStep p → r ≡ stepOf limits kinds s p
+  pub too-long : traceLimit < length s → nowhere 1 ≡ stepOf limits kinds s p
   unfolding stepOf
-  none-from e r r-is = r-is ∙ rw e
+  too-long h = rw (lt-ltb traceLimit (length s) h)
 
-  pub one-from : unsound p ≡ false → stepOn limits kinds s p ≡ stepOf limits kinds s p
+  pub no-place : length s ≤ traceLimit → unsound p ≡ true → nowhere 0 ≡ stepOf limits kinds s p
+  unfolding stepOf
+  no-place h e = rw (le-ltb traceLimit (length s) h) (rw e)
+
+  pub one-from : unsound p ≡ false → unlessLong s (stepOn limits kinds s p) ≡ stepOf limits kinds s p
   unfolding stepOf
   one-from e = rw e
+
+  -- a page's places in a trace that is not too long
+  pub one-within : length s ≤ traceLimit → Sound p → stepOn limits kinds s p ≡ stepOf limits kinds s p
+  one-within h sound = rw (le-ltb traceLimit (length s) h) at (one-from (is-sound p sound))
 
 -- a page's first place is one that a page comes to
 pub sound-start : (start : ℕ) → Sound (startPlace start)
@@ -104,22 +117,25 @@ module _ (limits : Limits) (low : 630822816000000000 ≤ limits .low) (high : li
   abbrev Left : ℕ → Type 0
   Left at = (index position : ℕ) → position ≤ index → Sound (stepFrom limits kinds s p at index position .next)
 
-  left-stop : (at : ℕ) → testAt limits kinds s at ≡ none → Left at
+  left-stop : (at : ℕ) → nextAt limits kinds s at ≡ none → Left at
   left-stop at e index position h = rw (step-stops limits kinds s p at index position e) (record { counted = h; timed = sound .timed })
 
-  left-by : (at m index position : ℕ) → testAt limits kinds s at ≡ some m → position ≤ index → Left m → (n : Next) → n ≡ firstOf (framesAt kinds s at index)
+  left-by : (at m index position : ℕ) → nextAt limits kinds s at ≡ some m → position ≤ index → Left m → (n : Next) → n ≡ firstOf (framesAt kinds s at index)
       → Sound (rowStep s (movedTo p at index position) n (stepFrom limits kinds s p m 0 0) .next)
   left-by at m index position e h ih Next.End n = ih 0 0 (omega arith)
   left-by at m index position e h ih (Next.Frame f next) n =
       let o = one-more (kindAt kinds s at) (outgoingAt s at) (payloadAt s at) index f next n in
-      record { counted = omega (arith, o .1); timed = time-most limits kinds s low high at m (some-next limits kinds s at m e) }
+      record { counted = omega (arith, o .1); timed = time-most limits kinds s low high at m (e) }
 
-  left-step : (at m : ℕ) → testAt limits kinds s at ≡ some m → Left m → Left at
+  left-step : (at m : ℕ) → nextAt limits kinds s at ≡ some m → Left m → Left at
   left-step at m e ih index position h =
       rw (step-on limits kinds s p at m index position e) (left-by at m index position e h ih (firstOf (framesAt kinds s at index)) refl)
 
-  pub sound-next : Sound (stepOf limits kinds s p .next)
+  on-next : Sound (stepOn limits kinds s p .next)
   unfolding stepOn
+  on-next = by-records (nextAt limits kinds s) (length s) (record-steps limits kinds s) Left left-stop left-step (p .offset) (p .index) (p .position) (sound .counted)
+
+  pub sound-next : Sound (stepOf limits kinds s p .next)
   sound-next =
       rw (sym (one-from limits kinds s p (is-sound p sound)))
-      (by-records (testAt limits kinds s) (length s) (test-steps limits kinds s) Left left-stop left-step (p .offset) (p .index) (p .position) (sound .counted))
+      (by-choice (λ (t : StepTold). Sound (t .next)) (ltb traceLimit (length s)) (λ _. sound-start 0) (λ _. on-next))

@@ -1,5 +1,6 @@
 // The rows of the records from a place on, by value and one at a time: how a page is filled.
 use layout::RECORD_HEADER;
+use layout::TRACE_LIMIT;
 use pti::PtiFrame;
 use record::Record;
 use record::RecordHeader;
@@ -12,7 +13,7 @@ ghost use Rattle.record.specs.Record.{plausible};
 ghost use Rattle.rows.specs.Frames.{firstOf, framesFrom};
 ghost use Rattle.rows.specs.Rows.{rowOf};
 ghost use lib.IntN.{pos};
-ghost use Rattle.steps.specs.Step.{latest, Sound, gapOf, beforeOf, blankRow, movedTo, noStep, rowStepAt, stepOn, stepOf};
+ghost use Rattle.steps.specs.Step.{latest, Sound, gapOf, beforeOf, blankRow, startPlace, movedTo, noStep, unlessLong, rowStepAt, stepOn, stepOf, toldStep};
 
 // The largest time that a valid record can have, in milliseconds.
 const LATEST: u64 = 4_112_352_000_000;
@@ -26,10 +27,19 @@ pub struct Place {
     pub previous: u64,
 }
 
-// A row, and the place after it.
+// What a step comes to: a row, the end of the valid records, or no step at all.
+pub enum StepAnswer {
+    Row,
+    End,
+    TraceTooLong,
+    NoSuchPlace,
+}
+
+// The answer, a row where one comes, and the place after it.
 pub struct Step {
     pub row: Row,
     pub next: Place,
+    pub answer: StepAnswer,
 }
 
 // The next frame of the record that a place is in.
@@ -95,18 +105,43 @@ pub fn blank() -> Row
     }
 }
 
-// No row comes, at a place.
-fn no_step(p: Place) -> Step
-    ensures { λ r. ⌜ r ≡ noStep p ⌝ }
+// No step at all, for the reason that the answer names.
+fn no_step(answer: StepAnswer) -> Step
+    ensures { λ r. ⌜ (r .row ≡ blankRow) × (r .next ≡ startPlace 0) × (r .answer ≡ answer) ⌝ }
 {
     let row = blank();
-    Step { row, next: p }
+    Step {
+        row,
+        next: Place {
+            offset: 0,
+            index: 0,
+            position: 0,
+            has_previous: false,
+            previous: 0,
+        },
+        answer,
+    }
+}
+
+// No valid record is at a place.
+fn end_at(s: &[u8], p: Place) -> Step
+    ensures { λ r. ⌜ toldStep r ≡ unlessLong (now (s .entry)) (noStep p) ⌝ }
+{
+    if TRACE_LIMIT < s.len() {
+        return no_step(StepAnswer::TraceTooLong);
+    }
+    let row = blank();
+    Step {
+        row,
+        next: p,
+        answer: StepAnswer::End,
+    }
 }
 
 // A frame's row, and the place after it.
 fn row_step(p: Place, millis: u64, frame: PtiFrame, next: usize) -> Step
     requires { ⌜ Sound p × (millis ≤ latest) × (p .offset + 13 + frame .mpdu < 18446744073709551616) × (p .position < next) ⌝ }
-    ensures { λ r. ⌜ r ≡ rowStepAt p (pos millis) millis frame next ⌝ }
+    ensures { λ r. ⌜ toldStep r ≡ rowStepAt p (pos millis) millis frame next ⌝ }
 {
     let gap = gap_of(p.has_previous, p.previous, millis);
     let row = row_of(p.offset, p.position, millis, gap, frame);
@@ -119,6 +154,7 @@ fn row_step(p: Place, millis: u64, frame: PtiFrame, next: usize) -> Step
             has_previous: true,
             previous: millis,
         },
+        answer: StepAnswer::Row,
     }
 }
 
@@ -138,12 +174,12 @@ fn moved_to(p: Place, at: usize) -> Place
 // The next row from a place on, in its record or in those that follow it.
 fn step_from(kinds: &[u8; 256], s: &[u8], p: Place) -> Step
     requires { ⌜ Sound p ⌝ }
-    ensures { λ r. ⌜ r ≡ stepOn plausible (now (kinds .entry)) (now (s .entry)) p ⌝ }
+    ensures { λ r. ⌜ toldStep r ≡ unlessLong (now (s .entry)) (stepOn plausible (now (kinds .entry)) (now (s .entry)) p) ⌝ }
 {
     let mut at = p;
     loop {
         let Record::Valid { header } = record::read_record(kinds, s, at.offset) else {
-            return no_step(at);
+            return end_at(s, at);
         };
         if let Next::Frame { frame, next } = frame_in(s, at, header) {
             return row_step(at, header.unix_millis, frame, next);
@@ -152,12 +188,15 @@ fn step_from(kinds: &[u8; 256], s: &[u8], p: Place) -> Step
     }
 }
 
-// The next row from a place on, and the place after it. A place that no page comes to has none.
+// The next row from a place on, and the place after it. A place that no page comes to is told as such.
 pub fn step_at(kinds: &[u8; 256], s: &[u8], p: Place) -> Step
-    ensures { λ r. ⌜ r ≡ stepOf plausible (now (kinds .entry)) (now (s .entry)) p ⌝ }
+    ensures { λ r. ⌜ toldStep r ≡ stepOf plausible (now (kinds .entry)) (now (s .entry)) p ⌝ }
 {
     if (p.index < p.position) | (LATEST < p.previous) {
-        return no_step(p);
+        if TRACE_LIMIT < s.len() {
+            return no_step(StepAnswer::TraceTooLong);
+        }
+        return no_step(StepAnswer::NoSuchPlace);
     }
     step_from(kinds, s, p)
 }

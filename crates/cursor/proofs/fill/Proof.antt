@@ -50,7 +50,7 @@ use denote.Triple.Clauses.{ensured, lasts}
 use denote.Triple.Walked.{says, needs, Stays, stay-none, stay-none-ref, stay-none-slice, stay-slice, walkOf, AllGo, Walks, ends-at, walked, goes-none, goes-none-ref, goes-none-slice, goes-slice, walk-meets}
 use denote.Exit.{yes}
 use Rattle.record.specs.Record.{plausible}
-use Rattle.steps.specs.Step.{stepOf, rowsOf}
+use Rattle.steps.specs.Step.{StepTold, toldStep, stepOf, rowsOf}
 use Rattle.rows.specs.declared.Row.{Row}
 use Rattle.steps.specs.declared.Place.{Place}
 use Rattle.steps.specs.declared.Step.{Step}
@@ -205,8 +205,8 @@ module _ {M : Type 1} (𝓤 : URA M) (H : Heap 𝓤) (A : Atoms 𝓤) (W : Given
       nothing ! $ owned ! P.the-row (Is P.the-row) (LL.makes P.the-type P′.the-plain 𝓤 H A) at _ is $ fjoin ! $ move ! (2 ∷ 0 ∷ []) $ fjoin ! $ move ! (1 ∷ 0 ∷ []) $ fjoin ! $
       move ! (2 ∷ 0 ∷ []) $ use2 W (raw (StepAt 𝓤 H A at-mem run .pre (to at))) (asked at) $ frame ! $ done !
 
-  said : (at : Place) (r : Step) → ent 𝓤 (ensured 𝓤 H A step.ended (step.clauses 𝓤 H A at-mem run) (κ₀, (κ, tt)) (kinds, (s, (at, tt))) tt r) (fact 𝓤 (r ≡ stepOf plausible (now kinds) (now s) at))
-  said at r = exE 𝓤 _ (λ ws. snd∗ 𝓤 (sem 𝓤 H A (lasts step.ended (κ₀, (κ, tt)) (kinds, (s, (at, tt))) ws)) (fact 𝓤 (r ≡ stepOf plausible (now kinds) (now s) at)))
+  said : (at : Place) (r : Step) → ent 𝓤 (ensured 𝓤 H A step.ended (step.clauses 𝓤 H A at-mem run) (κ₀, (κ, tt)) (kinds, (s, (at, tt))) tt r) (fact 𝓤 (toldStep r ≡ stepOf plausible (now kinds) (now s) at))
+  said at r = exE 𝓤 _ (λ ws. snd∗ 𝓤 (sem 𝓤 H A (lasts step.ended (κ₀, (κ, tt)) (kinds, (s, (at, tt))) ws)) (fact 𝓤 (toldStep r ≡ stepOf plausible (now kinds) (now s) at)))
 
   -- ---- what the loop is to give: the list at the end
   abbrev Target : List Row
@@ -259,7 +259,7 @@ module _ {M : Type 1} (𝓤 : URA M) (H : Heap 𝓤) (A : Atoms 𝓤) (W : Given
 
       -- a turn that writes one row
       more : (i : ℕ) (at : Place) (zs : List Row) (X : SProp 𝓤) → i < n → length zs ≡ length ys → Is P.the-row at (place-val at ∷ [])
-          → ((r : Step) → r ≡ stepOf plausible (now kinds) (now s) at → Is P.the-row (r .next) (place-val (r .next) ∷ []) → ent 𝓤 (⋆ 𝓤 H A (At (i + 1) (r .next) (set zs i (r .row)))) X)
+          → ((r : Step) → toldStep r ≡ stepOf plausible (now kinds) (now s) at → Is P.the-row (r .next) (place-val (r .next) ∷ []) → ent 𝓤 (⋆ 𝓤 H A (At (i + 1) (r .next) (set zs i (r .row)))) X)
           → ent 𝓤 (⋆ 𝓤 H A (At i at zs)) (Wp 𝓤 H C Λ En turn (afterTurn 𝓤 H X Left))
       unfolding afterTurn
       more i at zs X small e at-is k =
@@ -273,7 +273,7 @@ module _ {M : Type 1} (𝓤 : URA M) (H : Heap 𝓤) (A : Atoms 𝓤) (W : Given
           move ! (5 ∷ 4 ∷ []) $ use2 W (raw (StepAt 𝓤 H A at-mem run .pre (to at)) ⊛ ‵ Own) (asks at at-is) $ split ! $
           calls-at ! (fmOf 𝓤 H (W .laws) 𝓣) (StepAt 𝓤 H A at-mem run) known (to at) (and-then ! (load ! (from ! (stop !)) (look ! 26 refl)) (and-then ! (load ! (from ! (stop !)) (look ! 24 refl)) (and-then ! (load ! (from ! (stop !)) (look ! 16 refl)) (no-more !)))) (λ u.
           use1 W (later (some (λ (r : Step). (Tok ⊛ ‵ (S.the-row .own r (u ∷ []))) ⊛ raw (ensured 𝓤 H A step.ended (step.clauses 𝓤 H A at-mem run) (κ₀, (κ, tt)) (kinds, (s, (at, tt))) tt r)))) (id⊢ 𝓤 _) $ await ! tt $ pick ! (λ r.
-          split ! $ move ! (1 ∷ []) $ use1 W (raw (fact 𝓤 (r ≡ stepOf plausible (now kinds) (now s) at))) (said at r) $ heard ! (r ≡ stepOf plausible (now kinds) (now s) at) (λ found. split ! $ move ! (1 ∷ []) $
+          split ! $ move ! (1 ∷ []) $ use1 W (raw (fact 𝓤 (toldStep r ≡ stepOf plausible (now kinds) (now s) at))) (said at r) $ heard ! (toldStep r ≡ stepOf plausible (now kinds) (now s) at) (λ found. split ! $ move ! (1 ∷ []) $
           -- [the result; the tokens; what kinds and s own; the rows; the open borrow; obs; auth; _11; …]
           peeks ! S.the-row (Is S.the-row) (shows 𝓤 H A S.the-row) r (u ∷ []) (λ is.
           let parts = LL.owed S.the-type S′.the-laws r (u ∷ []) is in
@@ -322,7 +322,7 @@ module _ {M : Type 1} (𝓤 : URA M) (H : Heap 𝓤) (A : Atoms 𝓤) (W : Given
       turn-at (suc t) i at zs h =
           more i at zs (Below (suc t)) (still-below i t n (h .0)) (h .1) (h .2) (λ r found next-is.
           via 𝓤 (Inv t) (into t (i + 1) (r .next) (set zs i (r .row))
-          (one-on i t n (h .0), length-set zs i (r .row) ∙ h .1, next-is, ap (λ (z : Step). goes (now kinds) (now s) t (i + 1) (z .next) (set zs i (z .row))) found ∙ h .3))
+          (one-on i t n (h .0), length-set zs i (r .row) ∙ h .1, next-is, ap (λ (z : StepTold). goes (now kinds) (now s) t (i + 1) (z .next) (set zs i (z .row))) found ∙ h .3))
           (via 𝓤 (guard 𝓤 (t < suc t) (Inv t)) (guardI 𝓤 (t < suc t) (Inv t) (lt-suc-self t)) (exI 𝓤 (λ (u : ℕ). guard 𝓤 (u < suc t) (Inv u)) t)))
 
       turns : (t : ℕ) → ent 𝓤 (Inv t) (Wp 𝓤 H C Λ En turn (afterTurn 𝓤 H (Below t) Left))

@@ -5,14 +5,13 @@ use native.Mathlib.Omega.{arith}
 use lib.ListN.{length}
 use mathlib.Core.Path.{_≡_, refl, sym, ap, _∙_}
 use borrow.Author.Needs.{needs}
-use Rattle.record.proofs.Answers.{not-valid}
+use Rattle.record.proofs.Answers.{not-valid, next-none}
 use Rattle.record.specs.Record.{plausible}
 use Rattle.rows.specs.Frames.{firstOf}
 use Rattle.steps.specs.Step.{Sound, stepOn}
 use Rattle.steps.specs.declared.Place.{Place}
 use Rattle.steps.proofs.Headers.{header, frames-of, payload-length}
 use Rattle.steps.proofs.Stepping.{no-row, a-row, onward, row-asked, sound-moved}
-use Rattle.steps.proofs.Tests.{test-none, some-fits}
 use Rattle.steps.proofs.step_from.Statement.{statement}
 use Rattle.steps.proofs.step_from.Tie as tie
 
@@ -31,15 +30,15 @@ read-record-requires c κs = search needs
 enum-known-header : tie.Need-enum-known-header Inv-loop μ-loop
 enum-known-header c = search needs
 
-no-step-requires : tie.Need-no-step-requires Inv-loop μ-loop
-no-step-requires c κs = search needs
+end-at-requires : tie.Need-end-at-requires Inv-loop μ-loop
+end-at-requires c κs = search needs
 
 returns : tie.Need-returns Inv-loop μ-loop
 returns c =
     let a = c .before .before .before .before .before .args in let l = c .before .before .before .loop in let kinds = a .kinds .now in let s = a .s .now in
     no-row plausible kinds s (a .p) (l .at) (l .inv .1)
-    (test-none plausible kinds s (l .at .offset) _ (c .before .before .read-record .ensures) (not-valid (c .before .before .read-record .result) (c .before .match .keys2)))
-    _ (c .no-step .ensures)
+    (λ fits. next-none plausible kinds s (l .at .offset) _ (c .before .before .read-record .ensures) fits (not-valid (c .before .before .read-record .result) (c .before .match .keys2)))
+    _ (c .end-at .ensures)
 
 frame-in-requires : tie.Need-frame-in-requires Inv-loop μ-loop
 frame-in-requires c κs =
@@ -54,14 +53,14 @@ row-step-requires c κs =
     let a = c .before .before .before .before .before .before .before .before .before .before .args in let l = c .before .before .before .before .before .before .before .before .loop in let kinds = a .kinds .now in let s = a .s .now in
     let h = header kinds s (l .at .offset) (c .before .before .before .before .before .before .before .read-record .result) (c .before .before .before .before .before .before .before .read-record .ensures) _ (c .before .before .before .before .before .header .given .1) in
     let f-is = sym (c .before .frame .given .1) ∙ c .before .before .before .frame-in .ensures ∙ ap firstOf (frames-of kinds s (l .at .offset) _ h (l .at .index)) in
-    row-asked kinds s (l .at) (l .inv .0) _ _ _ (h .timed) f-is (omega (arith, h .inside, payload-length kinds s (l .at .offset) _ h)) (let fits = some-fits plausible kinds s (l .at .offset) _ (h .test) in omega (arith, fits))
+    row-asked kinds s (l .at) (l .inv .0) _ _ _ (h .timed) f-is (omega (arith, h .inside, payload-length kinds s (l .at .offset) _ h)) (omega (arith, h .fits))
 
 returns-2 : tie.Need-returns-2 Inv-loop μ-loop
 returns-2 c =
     let a = c .before .before .before .before .before .before .before .before .before .before .before .args in let l = c .before .before .before .before .before .before .before .before .before .loop in let kinds = a .kinds .now in let s = a .s .now in
     let h = header kinds s (l .at .offset) (c .before .before .before .before .before .before .before .before .read-record .result) (c .before .before .before .before .before .before .before .before .read-record .ensures) _ (c .before .before .before .before .before .before .header .given .1) in
     let f-is = sym (c .before .before .frame .given .1) ∙ c .before .before .before .before .frame-in .ensures ∙ ap firstOf (frames-of kinds s (l .at .offset) _ h (l .at .index)) in
-    a-row plausible kinds s (a .p) (l .at) (l .inv .1) _ _ _ _ (h .test) (h .millis) f-is _ (c .row-step .ensures)
+    a-row plausible kinds s (a .p) (l .at) (l .inv .1) (h .fits) _ _ _ _ (h .next) (h .millis) f-is _ (c .row-step .ensures)
 
 enum-told : tie.Need-enum-told Inv-loop μ-loop
 enum-told c = search needs
@@ -79,7 +78,7 @@ loop-again : tie.Need-loop-again Inv-loop μ-loop
 loop-again c =
     let a = c .before .before .before .before .before .before .before .before .before .before .args in let l = c .before .before .before .before .before .before .before .before .loop in let kinds = a .kinds .now in let s = a .s .now in
     let h = header kinds s (l .at .offset) (c .before .before .before .before .before .before .before .read-record .result) (c .before .before .before .before .before .before .before .read-record .ensures) _ (c .before .before .before .before .before .header .given .1) in
-    (sound-moved (l .at) (l .inv .0) _ _ (c .moved-to .ensures), onward plausible kinds s (a .p) (l .at) (l .inv .1) _ (h .test) (sym (c .before .enum-told .given .1) ∙ c .before .before .before .frame-in .ensures ∙ ap firstOf (frames-of kinds s (l .at .offset) _ h (l .at .index))) _ (c .moved-to .ensures))
+    (sound-moved (l .at) (l .inv .0) _ _ (c .moved-to .ensures), onward plausible kinds s (a .p) (l .at) (l .inv .1) _ (h .next) (sym (c .before .enum-told .given .1) ∙ c .before .before .before .frame-in .ensures ∙ ap firstOf (frames-of kinds s (l .at .offset) _ h (l .at .index))) _ (c .moved-to .ensures))
 
 pub step-from-spec : {M : Type 1} → statement M
 step-from-spec =
@@ -90,7 +89,7 @@ step-from-spec =
     loop-holds
     read-record-requires
     enum-known-header
-    no-step-requires
+    end-at-requires
     returns
     frame-in-requires
     enum-known-frame
