@@ -15,11 +15,7 @@ use Rattle.rows.specs.declared.Row.{Row}
 use Rattle.paging.proofs.Pages.{length-gapped}
 use Rattle.paging.specs.Page.{withGap, gapped, Taken, taken, PageGiven, withNone, lentTo, pageOf, pageFrom}
 use Rattle.steps.specs.Step.{gapOf, blankRow}
-
--- the gaps of some rows, with the time before them
-pub record Gaps (before : Option ℤ) (rows : List Row) : Type 0 where
-  pub first : 0 < length rows → getD rows 0 blankRow .gap ≡ gapOf before (getD rows 0 blankRow .millis)
-  pub others : (i : ℕ) → i + 1 < length rows → getD rows (i + 1) blankRow .gap ≡ getD rows (i + 1) blankRow .millis -ℤ getD rows i blankRow .millis
+use Rattle.cursor.specs.Reading.{Gaps}
 
 none-there : (before : Option ℤ) → Gaps before []
 none-there before = record { first = λ h. absurd (omega arith); others = λ i h. absurd (omega arith) }

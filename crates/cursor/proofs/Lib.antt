@@ -3,6 +3,7 @@ pub mod Readings
 pub mod Gaps
 pub mod Whole
 pub mod Demand3
+pub mod Enough
 pub mod Fills
 pub mod Only
 pub mod Local

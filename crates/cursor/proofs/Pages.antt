@@ -17,7 +17,7 @@ use Rattle.resync.specs.Search.{SearchTold, searched, found, nothing, defaultWi
 use Rattle.rows.specs.declared.Row.{Row}
 use Rattle.seam.specs.Seam.{Unbroken, ends, more}
 use Rattle.paging.specs.Page.{withGap, gapped, Taken, none-taken, with-record, takenAt, taken, PageTold, PageGiven, goingOn, lastPage, pageRefused, withNone, nextTold, lentTo, pageOf, pageFrom}
-use Rattle.cursor.specs.Reading.{Read, last, more as further, joined, bare, rowsFrom}
+use Rattle.cursor.specs.Reading.{bare, rowsFrom}
 use Rattle.seam.proofs.Walks.{past-end, stopped, goes-on}
 use Rattle.seam.proofs.Boundaries.{finds, finds-none}
 use Rattle.paging.proofs.Pages.{taken-stops, taken-on}

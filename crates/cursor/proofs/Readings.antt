@@ -4,7 +4,8 @@ use Prim.Native.Nat.{ℕ, zero, suc, _+_, _-_, _≤_, _<_}
 use borrow.Author.Tests.{ltb-true, ltb-false}
 use lib.Dec.{ltb}
 use lib.IntN.{ℤ, pos}
-use lib.ListN.{length}
+use lib.ListN.{length, take, drop}
+use lib.Seq.{take-at}
 use mathlib.Core.Bool.{Bool, true, false, cond, false≢true}
 use mathlib.Core.List.{List, [], _∷_, _++_, append-nil, flatMap}
 use mathlib.Core.Option.{Option, none, some}
@@ -15,16 +16,29 @@ use Rattle.layout.specs.Layout.{headerSize, traceLimit}
 use Rattle.record.proofs.Steps.{Steps}
 use Rattle.rows.specs.declared.Row.{Row}
 use Rattle.seam.specs.Seam.{Unbroken, ends, more}
-use Rattle.paging.specs.Page.{gapped, Taken, taken, PageTold, PageGiven, goingOn, lastPage, withNone, pageFrom}
-use Rattle.cursor.specs.Reading.{Read, last, more as further, Comes, begins, onward, joined, bare, rowsFrom}
+use Rattle.paging.specs.Page.{gapped, Taken, taken, PageTold, PageGiven, goingOn, lastPage, withNone, pageFrom, toldPage}
+use Rattle.paging.specs.declared.Page.{Page}
+use Rattle.paging.specs.declared.Page.the-variants as Page
+use Rattle.paging.proofs.Answers.{page-answer}
+use Rattle.paging.proofs.Sizes.{page-sized}
+use Rattle.cursor.specs.Reading.{Call, told, pageRows, Roomy, Chosen, Reading, last, more as further, joined, bare, rowsFrom}
+use Rattle.cursor.specs.Table.{Answered}
 use Rattle.seam.proofs.Walks.{past-end}
 use Rattle.seam.proofs.Boundaries.{unbroken-inside}
 use Rattle.cursor.proofs.Pages.{bare-append, bare-gapped, rows-stop, Part, part-more, page-end, page-given}
 
-module _ (next : ℕ → Option ℕ) (rows : ℕ → List Row) (n : ℕ) (steps : Steps next n) (before : Option ℤ) (fits : n ≤ traceLimit) (counts rooms : ℕ → ℕ)
-    (some-rows : (k : ℕ) → 1 ≤ counts k) where
-  abbrev pub page : ℕ → ℕ → PageGiven
-  page k at = pageFrom next rows n before at (counts k) (rooms k)
+-- an answer that names a next place is no refusal
+named : (p : Page) → toldPage p .isMore ≡ true → toldPage p .refusal ≡ 0
+named (Page.More start size next) e = refl
+named (Page.Last start size) e = refl
+named Page.TraceTooLong e = absurd (false≢true e)
+named Page.WindowTooLong e = absurd (false≢true e)
+named Page.TableTooShort e = absurd (false≢true e)
+
+module _ (next : ℕ → Option ℕ) (rows : ℕ → List Row) (n : ℕ) (steps : Steps next n) (before : Option ℤ) (fits : n ≤ traceLimit) where
+  -- the page from a place
+  abbrev pub page : ℕ → ℕ → ℕ → PageGiven
+  page count room at = pageFrom next rows n before at count room
 
   abbrev all : ℕ → List Row
   all at = rowsFrom next rows n at
@@ -32,118 +46,174 @@ module _ (next : ℕ → Option ℕ) (rows : ℕ → List Row) (n : ℕ) (steps 
   none-left : all n ≡ []
   none-left = rows-stop next rows n steps n (past-end next n steps n (omega arith))
 
-  -- the page from the end
-  module _ (read : ℕ) (low : headerSize ≤ n) where
-    end-is : page read n ≡ withNone (lastPage n 0)
-    end-is = page-end next rows n steps before fits low (counts read) (rooms read)
+  -- what is left after a page that names a next place: an unbroken stretch of fewer records
+  record Onward (k there : ℕ) : Type 0 where
+    pub left : ℕ
+    pub fewer : left < k
+    pub low : headerSize ≤ there
+    pub rest : Unbroken next n there left
 
-    end-all : bare (page read n .rows) ≡ bare (all n)
-    end-all = rw end-is (rw none-left)
+  module _ (count room : ℕ) where
+    -- the page from the end
+    module _ (low : headerSize ≤ n) where
+      end-is : page count room n ≡ withNone (lastPage n 0)
+      end-is = page-end next rows n steps before fits low count room
 
-  -- one page that is not refused for want of room, from a record's place, and the pages after it
-  module _ (read : ℕ) {at m k : ℕ} (low : headerSize ≤ at) (e : next at ≡ some m) (u : Unbroken next n m k) (room : page read at .told .refusal ≡ 7 → ⊥) where
-    abbrev t : Taken
-    t = taken next rows n at (counts read)
+      end-all : bare (page count room n .rows) ≡ bare (all n)
+      end-all = rw end-is (rw none-left)
 
-    p : Part next rows n steps at k t
-    p = part-more next rows n steps e u (counts read) (some-rows read)
+    -- one page that is not refused for want of room, from a record's place, and the pages after it
+    module _ {at m k : ℕ} (counted : 1 ≤ count) (low : headerSize ≤ at) (e : next at ≡ some m) (u : Unbroken next n m k) (roomy : page count room at .told .refusal ≡ 7 → ⊥) where
+      abbrev t : Taken
+      t = taken next rows n at count
 
-    abbrev told : Bool → PageTold
-    told b = cond b (goingOn at (length (t .rows)) (t .end)) (lastPage at (length (t .rows)))
+      p : Part next rows n steps at k t
+      p = part-more next rows n steps e u count counted
 
-    is : page read at ≡ record { told = told (ltb (t .end) n); rows = gapped before (t .rows) }
-    is = page-given next rows n steps before fits low (more e u) (counts read) (rooms read) (some-rows read) room
+      abbrev said : Bool → PageTold
+      said b = cond b (goingOn at (length (t .rows)) (t .end)) (lastPage at (length (t .rows)))
 
-    -- with some rows that are those after it, it has all
-    with-rest : (rest : List Row) → bare rest ≡ bare (all (t .end)) → bare (page read at .rows ++ rest) ≡ bare (all at)
-    with-rest rest h =
-        bare-append (page read at .rows) rest
-        ∙ ap (λ (l : List Row). l ++ bare rest) (ap (λ (g : PageGiven). bare (g .rows)) is ∙ bare-gapped before (t .rows))
-        ∙ ap (λ (l : List Row). bare (t .rows) ++ l) h
-        ∙ sym (bare-append (t .rows) (all (t .end)))
-        ∙ ap bare (p .together)
+      is : page count room at ≡ record { told = said (ltb (t .end) n); rows = gapped before (t .rows) }
+      is = page-given next rows n steps before fits low (more e u) count room counted roomy
 
-    -- no page comes after it: it has all
-    alone : ltb (t .end) n ≡ false → bare (page read at .rows) ≡ bare (all at)
-    unfolding bare
-    alone b =
-        let at-end : t .end ≡ n = omega (arith, ltb-false (t .end) n b, unbroken-inside next n steps (p .rest)) in
-        let h : bare [] ≡ bare (all (t .end)) = rw at-end (rw none-left) in
-        ap bare (sym (append-nil (page read at .rows))) ∙ with-rest [] h
+      -- with some rows that are those after it, it has all
+      with-rest : (rest : List Row) → bare rest ≡ bare (all (t .end)) → bare (page count room at .rows ++ rest) ≡ bare (all at)
+      with-rest rest h =
+          bare-append (page count room at .rows) rest
+          ∙ ap (λ (l : List Row). l ++ bare rest) (ap (λ (g : PageGiven). bare (g .rows)) is ∙ bare-gapped before (t .rows))
+          ∙ ap (λ (l : List Row). bare (t .rows) ++ l) h
+          ∙ sym (bare-append (t .rows) (all (t .end)))
+          ∙ ap bare (p .together)
 
-    goes-on : page read at .told .isMore ≡ ltb (t .end) n
-    goes-on = ap (λ (g : PageGiven). g .told .isMore) is ∙ by-more (ltb (t .end) n)
-      where
-        by-more : (b : Bool) → told b .isMore ≡ b
-        by-more true = refl
-        by-more false = refl
+      -- no page comes after it: it has all
+      alone : ltb (t .end) n ≡ false → bare (page count room at .rows) ≡ bare (all at)
+      unfolding bare
+      alone b =
+          let at-end : t .end ≡ n = omega (arith, ltb-false (t .end) n b, unbroken-inside next n steps (p .rest)) in
+          let h : bare [] ≡ bare (all (t .end)) = rw at-end (rw none-left) in
+          ap bare (sym (append-nil (page count room at .rows))) ∙ with-rest [] h
 
-    unrefused : page read at .told .refusal ≡ 0
-    unrefused = ap (λ (g : PageGiven). g .told .refusal) is ∙ none-refused (ltb (t .end) n)
-      where
-        none-refused : (b : Bool) → told b .refusal ≡ 0
-        none-refused true = refl
-        none-refused false = refl
+      goes-on : page count room at .told .isMore ≡ ltb (t .end) n
+      goes-on = ap (λ (g : PageGiven). g .told .isMore) is ∙ by-more (ltb (t .end) n)
+        where
+          by-more : (b : Bool) → said b .isMore ≡ b
+          by-more true = refl
+          by-more false = refl
 
-    next-place : ltb (t .end) n ≡ true → page read at .told .next ≡ t .end
-    next-place b = ap (λ (g : PageGiven). g .told .next) is ∙ rw b
+      next-place : ltb (t .end) n ≡ true → page count room at .told .next ≡ t .end
+      next-place b = ap (λ (g : PageGiven). g .told .next) is ∙ rw b
 
-  -- ---- whatever pages were read, they have all
-  read-at : (read : ℕ) {at k : ℕ} → headerSize ≤ at → Unbroken next n at k → page read at .told .refusal ≡ 0 → page read at .told .isMore ≡ false → bare (page read at .rows) ≡ bare (all at)
-  read-at read low ends r e = end-all read low
-  read-at read low (more {at} {m} {k} f u) r e =
-      let room : page read at .told .refusal ≡ 7 → ⊥ = λ z. omega (arith, r) in
-      alone read low f u room (sym (goes-on read low f u room) ∙ e)
+    module _ (counted : 1 ≤ count) where
+      -- the page that names no next place has all
+      read-last : {at k : ℕ} → headerSize ≤ at → Unbroken next n at k → (page count room at .told .refusal ≡ 7 → ⊥) → page count room at .told .isMore ≡ false
+          → bare (page count room at .rows) ≡ bare (all at)
+      read-last low ends r e = end-all low
+      read-last low (more f u) r e = alone counted low f u r (sym (goes-on counted low f u r) ∙ e)
 
-  read-more : (read : ℕ) {at k : ℕ} (rest : List Row) → headerSize ≤ at → Unbroken next n at k → page read at .told .refusal ≡ 0 → page read at .told .isMore ≡ true
-      → ((j : ℕ) → headerSize ≤ page read at .told .next → Unbroken next n (page read at .told .next) j → bare rest ≡ bare (all (page read at .told .next)))
-      → bare (page read at .rows ++ rest) ≡ bare (all at)
-  read-more read rest low ends r e ih = absurd (false≢true (sym (ap (λ (g : PageGiven). g .told .isMore) (end-is read low)) ∙ e))
-  read-more read rest low (more {at} {m} {k} f u) r e ih =
-      let room : page read at .told .refusal ≡ 7 → ⊥ = λ z. omega (arith, r) in
-      let q = p read low f u room in
-      let b : ltb (t read low f u room .end) n ≡ true = sym (goes-on read low f u room) ∙ e in
-      let there = next-place read low f u room b in
-      with-rest read low f u room rest (rw there at (ih (q .left) (rw there (omega (arith, q .further-on))) (rw there (q .rest))))
+      -- one that names a next place, and what is left there
+      read-on : {at k : ℕ} → headerSize ≤ at → Unbroken next n at k → (page count room at .told .refusal ≡ 7 → ⊥) → page count room at .told .isMore ≡ true
+          → Onward k (page count room at .told .next)
+      read-on low ends r e = absurd (false≢true (sym (ap (λ (g : PageGiven). g .told .isMore) (end-is low)) ∙ e))
+      read-on low (more f u) r e =
+          let q = p counted low f u r in
+          rw (next-place counted low f u r (sym (goes-on counted low f u r) ∙ e))
+          (record { left = q .left; fewer = omega (arith, q .fewer); low = omega (arith, q .further-on); rest = q .rest })
 
-  pub read-all : {read at : ℕ} {pages : List PageGiven} → Read page read at pages → (k : ℕ) → headerSize ≤ at → Unbroken next n at k → bare (joined pages) ≡ bare (all at)
-  unfolding joined flatMap
-  read-all {read} {at} (last r e) k low u = ap bare (append-nil (page read at .rows)) ∙ read-at read low u r e
-  read-all {read} {at} (further {pages = ps} r e rd) k low u = read-more read (joined ps) low u r e (λ j l v. read-all rd j l v)
+      read-more : {at k : ℕ} → headerSize ≤ at → Unbroken next n at k → (page count room at .told .refusal ≡ 7 → ⊥) → page count room at .told .isMore ≡ true
+          → (rest : List Row) → bare rest ≡ bare (all (page count room at .told .next)) → bare (page count room at .rows ++ rest) ≡ bare (all at)
+      read-more low ends r e rest h = absurd (false≢true (sym (ap (λ (g : PageGiven). g .told .isMore) (end-is low)) ∙ e))
+      read-more low (more f u) r e rest h =
+          with-rest counted low f u r rest (rw (next-place counted low f u r (sym (goes-on counted low f u r) ∙ e)) at h)
 
-  -- ---- with room enough for each of them the pages end
-  module _ (start : ℕ) (enough : (k at : ℕ) → Comes page start k at → page k at .told .refusal ≡ 7 → ⊥) where
-    abbrev Ends : ℕ → ℕ → Type 0
-    Ends read at = (pages : List PageGiven) × Read page read at pages
+  -- a call's answer and its table say what the page is
+  module _ (at : ℕ) (c : Call) (answered : Answered (page (c .count) (length (c .lent)) at) (c .answer) (c .lent) (c .after)) where
+    abbrev given : PageGiven
+    given = page (c .count) (length (c .lent)) at
 
-    ends-end : (read : ℕ) → headerSize ≤ n → Ends read n
-    ends-end read low =
-        (page read n ∷ [], last (ap (λ (g : PageGiven). g .told .refusal) (end-is read low)) (ap (λ (g : PageGiven). g .told .isMore) (end-is read low)))
+    pub rows-held : pageRows c ≡ given .rows
+    rows-held =
+        let size : length (given .rows) ≡ told c .size = sym (page-sized next rows n steps before (c .count) (length (c .lent)) at) ∙ ap (λ (t : PageTold). t .size) (sym (answered .told)) in
+        ap (take (told c .size)) (answered .rows) ∙ take-at (given .rows) (drop (length (given .rows)) (c .lent)) (told c .size) size
 
-    ends-at : (bound : ℕ) → ((read at k : ℕ) → Comes page start read at → k ≤ bound → headerSize ≤ at → Unbroken next n at k → Ends read at)
-        → (read : ℕ) {at k : ℕ} → Comes page start read at → k ≤ suc bound → headerSize ≤ at → Unbroken next n at k → Ends read at
-    ends-at bound ih read come h low ends = ends-end read low
-    ends-at bound ih read come h low (more {at} {m} {k} e u) =
-        let room = enough read at come in
-        let q = p read low e u room in
-        either (ltb (t read low e u room .end) n)
+    more-given : (goes : Bool) → told c .isMore ≡ goes → given .told .isMore ≡ goes
+    more-given goes e = sym (ap (λ (t : PageTold). t .isMore) (answered .told)) ∙ e
+
+    room-given : Roomy c → given .told .refusal ≡ 7 → ⊥
+    room-given roomy z = roomy (ap (λ (t : PageTold). t .refusal) (answered .told) ∙ z)
+
+    next-given : told c .next ≡ given .told .next
+    next-given = ap (λ (t : PageTold). t .next) (answered .told)
+
+    module _ (counted : 1 ≤ c .count) {k : ℕ} (low : headerSize ≤ at) (u : Unbroken next n at k) where
+      call-last : Roomy c → told c .isMore ≡ false → bare (pageRows c) ≡ bare (all at)
+      call-last roomy e = ap bare rows-held ∙ read-last (c .count) (length (c .lent)) counted low u (room-given roomy) (more-given false e)
+
+      call-roomy : told c .isMore ≡ true → Roomy c
+      call-roomy e z = omega (arith, named (c .answer) e)
+
+      call-on : told c .isMore ≡ true → Onward k (told c .next)
+      call-on e = rw next-given (read-on (c .count) (length (c .lent)) counted low u (room-given (call-roomy e)) (more-given true e))
+
+      call-more : told c .isMore ≡ true → (rest : List Row) → bare rest ≡ bare (all (told c .next)) → bare (pageRows c ++ rest) ≡ bare (all at)
+      call-more e rest h =
+          ap (λ (l : List Row). bare (l ++ rest)) rows-held
+          ∙ read-more (c .count) (length (c .lent)) counted low u (room-given (call-roomy e)) (more-given true e) rest (rw next-given at h)
+
+  -- ---- whatever pages were read, they end, and have all
+  module _ (call : ℕ → Call → Type 0) (answered : (at : ℕ) (c : Call) → call at c → Answered (page (c .count) (length (c .lent)) at) (c .answer) (c .lent) (c .after))
+      (counted : (at : ℕ) (c : Call) → call at c → 1 ≤ c .count) where
+    pub few-pages : {at : ℕ} {calls : List Call} {goes : Bool} → Reading call at calls goes → (k : ℕ) → headerSize ≤ at → Unbroken next n at k → length calls ≤ k + 1
+    few-pages (last o e) k low u = omega arith
+    few-pages {at} (further {c = c} o e rd) k low u =
+        let q = call-on at c (answered at c o) (counted at c o) low u e in
+        omega (arith, few-pages rd (q .left) (q .low) (q .rest), q .fewer)
+
+    pub read-all : ((at : ℕ) (c : Call) → call at c → Roomy c) → {at : ℕ} {calls : List Call} {goes : Bool} → Reading call at calls goes → goes ≡ false → (k : ℕ) → headerSize ≤ at → Unbroken next n at k
+        → bare (joined calls) ≡ bare (all at)
+    unfolding joined flatMap
+    read-all roomy {at} (last {c = c} o e) f k low u = ap bare (append-nil (pageRows c)) ∙ call-last at c (answered at c o) (counted at c o) low u (roomy at c o) (e ∙ f)
+    read-all roomy {at} (further {c = c} {calls = cs} o e rd) f k low u =
+        let q = call-on at c (answered at c o) (counted at c o) low u e in
+        call-more at c (answered at c o) (counted at c o) low u e (joined cs) (read-all roomy rd f (q .left) (q .low) (q .rest))
+
+  -- ---- with whatever counts and tables there are pages to the last
+  module _ (counts : ℕ → ℕ) (tables : ℕ → List Row) (some-rows : (at : ℕ) → 1 ≤ counts at) where
+    abbrev asked : ℕ → PageGiven
+    asked at = page (counts at) (length (tables at)) at
+
+    answer-at : (at : ℕ) → (p : Page) × (toldPage p ≡ asked at .told)
+    answer-at at = page-answer next rows n before at (counts at) (length (tables at))
+
+    abbrev call-at : ℕ → Call
+    call-at at =
+        record {
+          count = counts at;
+          lent = tables at;
+          answer = answer-at at .0;
+          after = asked at .rows ++ drop (length (asked at .rows)) (tables at);
+        }
+
+    abbrev So : ℕ → Call → Type 0
+    So at c = Answered (page (c .count) (length (c .lent)) at) (c .answer) (c .lent) (c .after) × (1 ≤ c .count) × Chosen counts tables at c
+
+    so : (at : ℕ) → So at (call-at at)
+    so at = (record { told = answer-at at .1; rows = refl }, some-rows at, record { count-is = refl; table-is = refl })
+
+    abbrev Reads : ℕ → Type 0
+    Reads at = (calls : List Call) × Reading So at calls false
+
+    -- the page from a place, and those after it where it names a next place
+    reads-on : (at k : ℕ) → headerSize ≤ at → Unbroken next n at k → (Onward k (told (call-at at) .next) → Reads (told (call-at at) .next)) → Reads at
+    reads-on at k low u later =
+        either (told (call-at at) .isMore)
         (λ yes′.
-        let goes = goes-on read low e u room ∙ yes′ in
-        let there = next-place read low e u room yes′ in
-        let come′ = subst (λ (z : ℕ). Comes page start (suc read) z) there (onward come (unrefused read low e u room) goes) in
-        let later = ih (suc read) (t read low e u room .end) (q .left) come′ (omega (arith, q .fewer)) (omega (arith, q .further-on)) (q .rest) in (
-          page read at ∷ later .0,
-          further (unrefused read low e u room) goes (subst (λ (z : ℕ). Read page (suc read) z (later .0)) (sym there) (later .1)),
-        ))
-        (λ no′. (page read at ∷ [], last (unrefused read low e u room) (goes-on read low e u room ∙ no′)))
+        let rest = later (call-on at (call-at at) (so at .0) (some-rows at) low u yes′) in
+        (call-at at ∷ rest .0, further (so at) yes′ (rest .1)))
+        (λ no′. (call-at at ∷ [], last (so at) no′))
 
-    ends-none : (read : ℕ) {at k : ℕ} → k ≤ 0 → headerSize ≤ at → Unbroken next n at k → Ends read at
-    ends-none read h low ends = ends-end read low
-    ends-none read h low (more e u) = absurd (omega arith)
+    reads-by : (bound at k : ℕ) → k ≤ bound → headerSize ≤ at → Unbroken next n at k → Reads at
+    reads-by zero at k h low u = reads-on at k low u (λ q. absurd (omega (arith, q .fewer)))
+    reads-by (suc bound) at k h low u = reads-on at k low u (λ q. reads-by bound (told (call-at at) .next) (q .left) (omega (arith, q .fewer)) (q .low) (q .rest))
 
-    ends-by : (bound read at k : ℕ) → Comes page start read at → k ≤ bound → headerSize ≤ at → Unbroken next n at k → Ends read at
-    ends-by zero read at k come h low u = ends-none read h low u
-    ends-by (suc bound) read at k come h low u = ends-at bound (ends-by bound) read come h low u
-
-    pub pages-end : (k : ℕ) → headerSize ≤ start → Unbroken next n start k → Ends 0 start
-    pages-end k low u = ends-by k 0 start k begins (omega arith) low u
+    pub reads-all : (at k : ℕ) → headerSize ≤ at → Unbroken next n at k → Reads at
+    reads-all at k low u = reads-by k at k (omega arith) low u

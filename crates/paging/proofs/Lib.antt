@@ -3,3 +3,5 @@ pub mod Counting
 pub mod Filled
 pub mod Planning
 pub mod Only
+pub mod Sizes
+pub mod Answers
