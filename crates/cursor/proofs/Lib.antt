@@ -6,4 +6,6 @@ pub mod Demand3
 pub mod Enough
 pub mod Fills
 pub mod Only
+pub mod Once
 pub mod Local
+pub mod Operands

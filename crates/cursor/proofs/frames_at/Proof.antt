@@ -2,7 +2,7 @@
 -- passed on for good to `fill`, which writes them: the borrow goes to it at its own lifetime, share and name.
 -- Assumes nothing.
 use mathlib.Core.Path.{_≡_, refl, ap}
-use Prim.Native.Nat.{ℕ, _<_, _≤_, _^_}
+use Prim.Native.Nat.{ℕ, _-_, _*_, _<_, _≤_, _^_}
 use mathlib.Core.List.{List, [], _∷_, _++_}
 use mathlib.Core.Option.{none}
 use lib.ListN.{length, drop}
@@ -51,6 +51,7 @@ use Rattle.paging.specs.declared.Page.{Page}
 use Rattle.steps.specs.declared.Place.{Place}
 use Rattle.paging.specs.declared.Plan.{Plan}
 use Rattle.cursor.proofs.Fills.{answered}
+use Rattle.cursor.proofs.Operands.{passedLocal}
 use Rattle.paging.proofs.Page as PG
 use Rattle.paging.proofs.Page.Laws as PG′
 use Rattle.steps.proofs.Place as P
@@ -72,6 +73,10 @@ use Rattle.cursor.proofs.frames_at.Code as code
 
 abbrev stayed : Stays (f.ended .signature .params) (f.ended .kept)
 stayed = (stay-none-ref (0 ∷ []) tt (ArrayOf (plain (λ _. u8)) (λ _. tt) 256) yes, (stay-none-slice (1 ∷ []) tt (plain (λ _. u8)) yes, (stay-none (λ _. usize) yes, (stay-none (λ _. usize) yes, (gave-slice (2 ∷ []) tt (plain (λ _. T.the-row)), tt)))))
+
+-- where the local stands, in the walk, that is passed to `plan_page` at i
+abbrev cell : ℕ → ℕ
+cell i = 24 - 2 * passedLocal (code.function .body) i
 
 abbrev place-val : Place → Val
 place-val = LL.val P.the-type P′.the-laws
@@ -218,7 +223,7 @@ module _ {M : Type 1} (𝓤 : URA M) (H : Heap 𝓤) (A : Atoms 𝓤) (W : Given
         -- [two tokens; the third; what kinds and s own; the table; _10; …]: local k stands at 4 + 2 · (10 − k). The table's length, and the plan
         assigns ! (of-opd ! (load ! (from ! (fld ! refl (stop !))) (look-in ! 14 (sub ! 1 refl (whole !))))) (from ! (stop !)) (init ! 10 refl (tt, record { fits = room .0 })) $
         move ! (2 ∷ 0 ∷ []) $ use2 W (raw (PlanPage 𝓤 H A at-mem run .pre to-plan) ⊛ ‵ Own) plan-asks $ split ! $
-        calls-at ! fm (PlanPage 𝓤 H A at-mem run) known-plan to-plan (and-then ! (load ! (from ! (stop !)) (look ! 22 refl)) (and-then ! (load ! (from ! (stop !)) (look ! 20 refl)) (and-then ! (load ! (from ! (stop !)) (look ! 18 refl)) (and-then ! (load ! (from ! (stop !)) (look ! 16 refl)) (and-then ! (load ! (from ! (stop !)) (look ! 10 refl)) (no-more !)))))) (λ u.
+        calls-at ! fm (PlanPage 𝓤 H A at-mem run) known-plan to-plan (and-then ! (load ! (from ! (stop !)) (look ! 22 refl)) (and-then ! (load ! (from ! (stop !)) (look ! 20 refl)) (and-then ! (load ! (from ! (stop !)) (look ! (cell 2) refl)) (and-then ! (load ! (from ! (stop !)) (look ! (cell 3) refl)) (and-then ! (load ! (from ! (stop !)) (look ! 10 refl)) (no-more !)))))) (λ u.
         use1 W (later (some (λ (r : Plan). (Tok ⊛ ‵ (PL.the-row .own r (u ∷ []))) ⊛ raw (ensured 𝓤 H A plan.ended (plan.clauses 𝓤 H A at-mem run) (κ₀, (κ, tt)) to-plan-page tt r)))) (id⊢ 𝓤 _) $ await ! tt $ pick ! (λ r.
         split ! $ move ! (1 ∷ []) $ use1 W (raw (fact 𝓤 (Plans r))) (plan-said r) $ heard ! (Plans r) (λ p. split ! $ move ! (1 ∷ []) $
         -- [the plan; two tokens; what kinds and s own; the third; the table; _10; …]

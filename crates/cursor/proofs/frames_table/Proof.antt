@@ -3,7 +3,7 @@
 -- The walk is over the MIR written out for any count N, and 600 is put in at the end, so that antt never spells 600 rows out.
 -- Assumes nothing.
 use mathlib.Core.Path.{_≡_, refl, sym, _∙_, ap, subst}
-use Prim.Native.Nat.{ℕ, _<_, _≤_, _*_, _^_}
+use Prim.Native.Nat.{ℕ, _-_, _<_, _≤_, _*_, _^_}
 use mathlib.Core.List.{List, [], _∷_, _++_, map}
 use mathlib.Core.Option.{none}
 use lib.ListN.{length, replicate, length-replicate, length-map}
@@ -58,6 +58,7 @@ use Rattle.cursor.specs.Table.{Answered, blanks}
 use Rattle.paging.specs.declared.Page.{Page}
 use Rattle.cursor.specs.declared.Table.{Table}
 use Rattle.cursor.proofs.Local.{Lends, lends-local, back-local}
+use Rattle.cursor.proofs.Operands.{passedIn, passedLocal, arrayIn}
 use Rattle.paging.proofs.Page as PG
 use Rattle.paging.proofs.Page.Laws as PG′
 use Rattle.cursor.proofs.Table as TB
@@ -88,7 +89,7 @@ result r us = vstruct (vcons (page-val r) (vcons (arrayVal us) vnil))
 abbrev word : Ty
 word = tyInt w64
 
--- ---- the MIR, for any count N and any type R of the result
+-- ---- the MIR, for any count N and any type R of the result, with what it passes to `frames_at`
 abbrev fnN : ℕ → Ty → Fn
 fnN N R = record {
   lifetimes = 2;
@@ -100,13 +101,17 @@ fnN N R = record {
       (seq (assign (place 5 []) (repeat (copy (place 7 [])) N))
       (seq (assign (place 8 []) (addrOf (place 5 [])))
       (seq (assign (place 9 []) (aggregate (copy (place 8 []) ∷ int w64 N ∷ [])))
-      (seq (call #cursor·frames-at (copy (place 1 []) ∷ copy (place 2 []) ∷ copy (place 3 []) ∷ copy (place 4 []) ∷ copy (place 9 []) ∷ []) (place 6 []))
+      (seq (call #cursor·frames-at (passedIn (code.function .body)) (place 6 []))
       (seq (assign (place 10 []) (rvOpd (copy (place 5 []))))
       (seq (assign (place 0 []) (aggregate (copy (place 6 []) ∷ copy (place 10 []) ∷ []))) return))))));
 }
 
--- the MIR that `rattle` made is that, at 600
-is-fn : code.function ≡ fnN 600 TB′.mir
+-- where the local stands, in the walk, that is passed to `frames_at` at i
+abbrev cell : ℕ → ℕ
+cell i = 22 - 2 * passedLocal (code.function .body) i
+
+-- the MIR that `rattle` made is that, at its array's length
+is-fn : code.function ≡ fnN (arrayIn (code.function .body)) TB′.mir
 is-fn = refl
 
 module _ {M : Type 1} (𝓤 : URA M) (H : Heap 𝓤) (A : Atoms 𝓤) (at-mem : Memory → SProp 𝓤) (run : Routine → Fun 𝓤) where
@@ -237,7 +242,7 @@ module _ {M : Type 1} (𝓤 : URA M) (H : Heap 𝓤) (A : Atoms 𝓤) (W : Given
         -- [rows; the lender's part; ν's token; the others; what kinds and s own; _10; …]
         move ! (3 ∷ []) $ split ! $ move ! (1 ∷ []) $ split ! $ move ! (5 ∷ 1 ∷ []) $ join ! $ move ! (1 ∷ 0 ∷ []) $ join ! $ move ! (1 ∷ 0 ∷ []) $ join ! $ move ! (1 ∷ 0 ∷ 3 ∷ []) $
         use3 W (raw (Frames 𝓤 H A at-mem run .pre (to-frames ν l₅ γ)) ⊛ ‵ Own) (frames-asks ν l₅ γ) $ split ! $
-        calls-at ! fm (Frames 𝓤 H A at-mem run) known-frames (to-frames ν l₅ γ) (and-then ! (load ! (from ! (stop !)) (look ! 20 refl)) (and-then ! (load ! (from ! (stop !)) (look ! 18 refl)) (and-then ! (load ! (from ! (stop !)) (look ! 16 refl)) (and-then ! (load ! (from ! (stop !)) (look ! 14 refl)) (and-then ! (load ! (from ! (stop !)) (look ! 5 refl)) (no-more !)))))) (λ u′.
+        calls-at ! fm (Frames 𝓤 H A at-mem run) known-frames (to-frames ν l₅ γ) (and-then ! (load ! (from ! (stop !)) (look ! 20 refl)) (and-then ! (load ! (from ! (stop !)) (look ! 18 refl)) (and-then ! (load ! (from ! (stop !)) (look ! (cell 2) refl)) (and-then ! (load ! (from ! (stop !)) (look ! (cell 3) refl)) (and-then ! (load ! (from ! (stop !)) (look ! 5 refl)) (no-more !)))))) (λ u′.
         use1 W (later (some (λ (r′ : Page). (Toks ν ⊛ ‵ (PG.the-row .own r′ (u′ ∷ []))) ⊛ raw (ensured 𝓤 H A frames.ended (frames.clauses 𝓤 H A at-mem run) (κ₀, (κ, (ν ∷ [], tt))) (passed l₅ γ) tt r′)))) (id⊢ 𝓤 _) $ await ! tt $ pick ! (λ r′. split ! $ move ! (1 ∷ []) $
         use1 W (some (λ (zs : Unit {0} × (Unit {0} × (Unit {0} × (Unit {0} × (List Row × Unit {0}))))). ‵ (lasts frames.ended (κ₀, (κ, (ν ∷ [], tt))) (passed l₅ γ) zs) ⊛ raw (fact 𝓤 (Said r′ (zs .1 .1 .1 .1 .0))))) (id⊢ 𝓤 _) $ pick ! (λ zs. split ! $ move ! (1 ∷ []) $ heard ! (Said r′ (zs .1 .1 .1 .1 .0)) (λ e′.
         fsplit ! $ let-go ! $ fsplit ! $ let-go ! $ fsplit ! $ let-go ! $ fsplit ! $ let-go ! $ fsplit ! $ fsplit ! $ move ! (1 ∷ []) $ feqL ! (λ l. move ! (1 ∷ []) $ let-go ! $ move ! (1 ∷ []) $ split ! $ move ! (1 ∷ []) $
