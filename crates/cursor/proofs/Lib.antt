@@ -1,4 +1,5 @@
 pub mod Pages
+pub mod Held
 pub mod Readings
 pub mod Gaps
 pub mod Whole

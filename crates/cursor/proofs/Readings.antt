@@ -4,8 +4,7 @@ use Prim.Native.Nat.{ℕ, zero, suc, _+_, _-_, _≤_, _<_}
 use borrow.Author.Tests.{ltb-true, ltb-false}
 use lib.Dec.{ltb}
 use lib.IntN.{ℤ, pos}
-use lib.ListN.{length, take, drop}
-use lib.Seq.{take-at}
+use lib.ListN.{length, drop}
 use mathlib.Core.Bool.{Bool, true, false, cond, false≢true}
 use mathlib.Core.List.{List, [], _∷_, _++_, append-nil, flatMap}
 use mathlib.Core.Option.{Option, none, some}
@@ -20,11 +19,11 @@ use Rattle.paging.specs.Page.{gapped, Taken, taken, PageTold, PageGiven, goingO
 use Rattle.paging.specs.declared.Page.{Page}
 use Rattle.paging.specs.declared.Page.the-variants as Page
 use Rattle.paging.proofs.Answers.{page-answer}
-use Rattle.paging.proofs.Sizes.{page-sized}
 use Rattle.cursor.specs.Reading.{Call, told, pageRows, Roomy, Chosen, Reading, last, more as further, joined, bare, rowsFrom}
 use Rattle.cursor.specs.Table.{Answered}
 use Rattle.seam.proofs.Walks.{past-end}
 use Rattle.seam.proofs.Boundaries.{unbroken-inside}
+use Rattle.cursor.proofs.Held.{rows-held}
 use Rattle.cursor.proofs.Pages.{bare-append, bare-gapped, rows-stop, Part, part-more, page-end, page-given}
 
 -- an answer that names a next place is no refusal
@@ -130,10 +129,8 @@ module _ (next : ℕ → Option ℕ) (rows : ℕ → List Row) (n : ℕ) (steps 
     abbrev given : PageGiven
     given = page (c .count) (length (c .lent)) at
 
-    pub rows-held : pageRows c ≡ given .rows
-    rows-held =
-        let size : length (given .rows) ≡ told c .size = sym (page-sized next rows n steps before (c .count) (length (c .lent)) at) ∙ ap (λ (t : PageTold). t .size) (sym (answered .told)) in
-        ap (take (told c .size)) (answered .rows) ∙ take-at (given .rows) (drop (length (given .rows)) (c .lent)) (told c .size) size
+    held : pageRows c ≡ given .rows
+    held = rows-held next rows n steps before at c answered
 
     more-given : (goes : Bool) → told c .isMore ≡ goes → given .told .isMore ≡ goes
     more-given goes e = sym (ap (λ (t : PageTold). t .isMore) (answered .told)) ∙ e
@@ -146,7 +143,7 @@ module _ (next : ℕ → Option ℕ) (rows : ℕ → List Row) (n : ℕ) (steps 
 
     module _ (counted : 1 ≤ c .count) {k : ℕ} (low : headerSize ≤ at) (u : Unbroken next n at k) where
       call-last : Roomy c → told c .isMore ≡ false → bare (pageRows c) ≡ bare (all at)
-      call-last roomy e = ap bare rows-held ∙ read-last (c .count) (length (c .lent)) counted low u (room-given roomy) (more-given false e)
+      call-last roomy e = ap bare held ∙ read-last (c .count) (length (c .lent)) counted low u (room-given roomy) (more-given false e)
 
       call-roomy : told c .isMore ≡ true → Roomy c
       call-roomy e z = omega (arith, named (c .answer) e)
@@ -156,7 +153,7 @@ module _ (next : ℕ → Option ℕ) (rows : ℕ → List Row) (n : ℕ) (steps 
 
       call-more : told c .isMore ≡ true → (rest : List Row) → bare rest ≡ bare (all (told c .next)) → bare (pageRows c ++ rest) ≡ bare (all at)
       call-more e rest h =
-          ap (λ (l : List Row). bare (l ++ rest)) rows-held
+          ap (λ (l : List Row). bare (l ++ rest)) held
           ∙ read-more (c .count) (length (c .lent)) counted low u (room-given (call-roomy e)) (more-given true e) rest (rw next-given at h)
 
   -- ---- whatever pages were read, they end, and have all

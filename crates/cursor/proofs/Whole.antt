@@ -26,8 +26,9 @@ use Rattle.seam.proofs.Only.{only-seam}
 use Rattle.seam.proofs.Walks.{by-records}
 use Rattle.seam.proofs.SeamLaws.{seam-unbroken, seam-broken}
 use Rattle.cursor.proofs.Gaps.{page-gaps}
+use Rattle.cursor.proofs.Held.{rows-held}
 use Rattle.cursor.proofs.Pages.{bare-append, rows-stop, rows-on}
-use Rattle.cursor.proofs.Readings.{rows-held, few-pages, read-all, reads-all}
+use Rattle.cursor.proofs.Readings.{few-pages, read-all, reads-all}
 
 -- a record's rows have no gaps
 bare-numbered : (s : List ℕ) (at k : ℕ) (fs : List Placed) → bare (numbered s at k fs) ≡ numbered s at k fs
@@ -94,5 +95,5 @@ module _ (limits : Limits) (kinds s : List ℕ) where
               read-all next (rowsAt kinds s) (length s) steps none fits (λ (at : ℕ) (c : Call). Ok at c × Roomy c) (λ at c o. o .0 .answered) (λ at c o. o .0 .counted) (λ at c o. o .1) rd refl k low (says-unbroken k .0 e)
               ∙ all-bare place;
           gaps = λ at c o.
-              rw (rows-held next (rowsAt kinds s) (length s) steps none fits at c (o .answered)) (page-gaps next (rowsAt kinds s) (length s) none at (c .count) (length (c .lent)));
+              rw (rows-held next (rowsAt kinds s) (length s) steps none at c (o .answered)) (page-gaps next (rowsAt kinds s) (length s) none at (c .count) (length (c .lent)));
         }

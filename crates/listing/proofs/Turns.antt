@@ -4,7 +4,7 @@ use Prim.Native.Nat.{ℕ, zero, suc, _+_, _-_, _≤_, _<_}
 use lib.Dec.{ltb, eqb}
 use lib.IntN.{ℤ}
 use lib.ListN.{length}
-use mathlib.Core.Bool.{true, false, true≢false}
+use mathlib.Core.Bool.{Bool, true, false, true≢false}
 use mathlib.Core.List.{List, [], _∷_, _++_, append-assoc, append-nil, flatMap}
 use mathlib.Core.Option.{Option, none, some}
 use mathlib.Core.Path.{_≡_, refl, sym, ap, _∙_}
@@ -20,12 +20,13 @@ use Rattle.resync.proofs.Found.{FoundFirst, found-is}
 use Rattle.record.proofs.Valid.{record-steps}
 use Rattle.rows.specs.Rows.{rowsAt}
 use Rattle.rows.specs.declared.Row.{Row}
-use Rattle.paging.specs.Page.{Taken, taken, none-taken, with-record, gapped, PageTold, PageGiven, nextTold, goingOn, lastPage, withNone, pageRefused, lentTo, pageFrom}
-use Rattle.cursor.specs.Reading.{Read, last, more, joined}
+use Rattle.paging.specs.Page.{Taken, taken, none-taken, with-record, gapped, PageTold, PageGiven, nextTold, goingOn, lastPage, withNone, pageRefused, lentTo, pageFrom, pageAt}
+use Rattle.cursor.specs.Reading.{Call, told, pageRows, Reading, last, more, joined}
+use Rattle.cursor.proofs.Held.{rows-held}
 use Rattle.paging.proofs.Pages.{taken-stops, taken-on}
 use Rattle.seam.proofs.Walks.{by-records}
 use Rattle.lines.specs.Lines.{rowText}
-use Rattle.listing.specs.Listing.{rowsText, pageOf, pagesText}
+use Rattle.listing.specs.Listing.{rowsText, pageOf, Listed, pagesText}
 
 -- a page that names a next place names a later one, before the end
 pub Moves : ℕ → ℕ → PageGiven → Type 0
@@ -80,31 +81,65 @@ unfolding flatMap
 flat-append f [] b = refl
 flat-append f (x ∷ a) b = ap (λ (t : List ℕ). f x ++ t) (flat-append f a b) ∙ sym (append-assoc (f x) (flatMap f a) (flatMap f b))
 
-module _ (page : ℕ → PageGiven) where
+-- calls that each give the page from their place
+module _ (page : ℕ → PageGiven) (call : ℕ → Call → Type 0) (is-told : (at : ℕ) (c : Call) → call at c → told c ≡ page at .told) (is-rows : (at : ℕ) (c : Call) → call at c → pageRows c ≡ page at .rows)
+    (good : (at : ℕ) (c : Call) → call at c → told c .refusal ≡ 0) where
+  refused : (at : ℕ) (c : Call) → call at c → page at .told .refusal ≡ 0
+  refused at c o = sym (ap (λ (t : PageTold). t .refusal) (is-told at c o)) ∙ good at c o
+
+  goes-on : (at : ℕ) (c : Call) → call at c → (goes : Bool) → told c .isMore ≡ goes → page at .told .isMore ≡ goes
+  goes-on at c o goes e = sym (ap (λ (t : PageTold). t .isMore) (is-told at c o)) ∙ e
+
+  place : (at : ℕ) (c : Call) → call at c → page at .told .next ≡ told c .next
+  place at c o = sym (ap (λ (t : PageTold). t .next) (is-told at c o))
+
   -- so many pages
-  number : (n : ℕ) → ((at : ℕ) → Moves n at (page at)) → {k at : ℕ} {pages : List PageGiven} → Read (λ (i : ℕ). page) k at pages → at ≤ n → length pages + at ≤ n + 1
+  number : (n : ℕ) → ((at : ℕ) → Moves n at (page at)) → {at : ℕ} {calls : List Call} {goes : Bool} → Reading call at calls goes → at ≤ n → length calls + at ≤ n + 1
   unfolding Moves
-  number n m (last r e) h = omega arith
-  number n m {at = at} (more r e rest) h = omega (arith, m at e .0, number n m rest (omega (arith, m at e .1)))
+  number n m (last o e) h = omega arith
+  number n m {at} (more {c = c} o e rest) h =
+      let there = m at (goes-on at c o true e) in
+      let on = place at c o in
+      omega (arith, there .0, number n m rest (omega (arith, there .1)))
 
   -- their text
-  pub read-text : (end : List ℕ) {k at : ℕ} {pages : List PageGiven} → Read (λ (i : ℕ). page) k at pages → (turns : ℕ) → length pages ≤ turns
-      → pagesText page end turns at ≡ flatMap rowText (joined pages) ++ end
+  pub read-text : (end : List ℕ) {at : ℕ} {calls : List Call} {goes : Bool} → Reading call at calls goes → goes ≡ false → (turns : ℕ) → length calls ≤ turns
+      → pagesText page end turns at ≡ flatMap rowText (joined calls) ++ end
   unfolding pagesText rowsText joined flatMap
-  read-text end (last r e) zero h = absurd (omega arith)
-  read-text end {at = at} (last r e) (suc turns) h = simp (r, e) (ap (λ (x : List Row). flatMap rowText x ++ end) (sym (append-nil (page at .rows))))
-  read-text end (more r e rest) zero h = absurd (omega arith)
-  read-text end {at = at} (more {pages = pages} r e rest) (suc turns) h =
-      simp (r, e)
-      (ap (λ (t : List ℕ). flatMap rowText (page at .rows) ++ t) (read-text end rest turns (omega arith))
-      ∙ sym (append-assoc (flatMap rowText (page at .rows)) (flatMap rowText (joined pages)) end)
-      ∙ ap (λ (t : List ℕ). t ++ end) (sym (flat-append rowText (page at .rows) (joined pages))))
+  read-text end (last o e) f zero h = absurd (omega arith)
+  read-text end {at} (last {c = c} o e) f (suc turns) h =
+      simp (refused at c o, goes-on at c o false (e ∙ f))
+      (ap (λ (x : List Row). flatMap rowText x ++ end) (sym (is-rows at c o) ∙ sym (append-nil (pageRows c))))
+  read-text end (more o e rest) f zero h = absurd (omega arith)
+  read-text end {at} (more {c = c} {calls = calls} o e rest) f (suc turns) h =
+      let on : pagesText page end turns (page at .told .next) ≡ flatMap rowText (joined calls) ++ end = rw (place at c o) (read-text end rest f turns (omega arith)) in
+      simp (refused at c o, goes-on at c o true e)
+      (ap (λ (t : List ℕ). flatMap rowText (page at .rows) ++ t) on
+      ∙ sym (append-assoc (flatMap rowText (page at .rows)) (flatMap rowText (joined calls)) end)
+      ∙ ap (λ (t : List ℕ). t ++ end) (sym (flat-append rowText (page at .rows) (joined calls)))
+      ∙ ap (λ (x : List Row). flatMap rowText (x ++ joined calls) ++ end) (sym (is-rows at c o)))
 
--- the pages from 2,048 on, each from the place that the last one named, are listed whole
-pub all-listed : (kinds s end : List ℕ) {pages : List PageGiven} → headerSize ≤ length s → Read (λ (i : ℕ). pageOf kinds s) 0 headerSize pages
-    → pagesText (pageOf kinds s) end (length s) headerSize ≡ flatMap rowText (joined pages) ++ end
-all-listed kinds s end {pages} h r =
-    let n : length pages + headerSize ≤ length s + 1 =
-    number (pageOf kinds s) (length s)
-    (λ at. moves (nextAt plausible kinds s) (rowsAt kinds s) (length s) (record-steps plausible kinds s) none at 600) r h in
-    read-text (pageOf kinds s) end r (length s) (omega arith)
+module _ (kinds s : List ℕ) where
+  steps-in : Steps (nextAt plausible kinds s) (length s)
+  steps-in = record-steps plausible kinds s
+
+  same : (at : ℕ) (c : Call) → Listed kinds s at c → pageAt plausible kinds s none at (c .count) (length (c .lent)) ≡ pageOf kinds s at
+  same at c o = λ j. pageAt plausible kinds s none at (o .count-is j) (o .room-is j)
+
+  told-is : (at : ℕ) (c : Call) → Listed kinds s at c → told c ≡ pageOf kinds s at .told
+  told-is at c o = o .asked .answered .told ∙ ap (λ (g : PageGiven). g .told) (same at c o)
+
+  rows-are : (at : ℕ) (c : Call) → Listed kinds s at c → pageRows c ≡ pageOf kinds s at .rows
+  rows-are at c o = rows-held (nextAt plausible kinds s) (rowsAt kinds s) (length s) steps-in none at c (o .asked .answered) ∙ ap (λ (g : PageGiven). g .rows) (same at c o)
+
+  not-refused : (at : ℕ) (c : Call) → Listed kinds s at c → told c .refusal ≡ 0
+  not-refused at c o = o .good
+
+  -- the pages from 2,048 on, each from the place that the last one named, are listed whole
+  pub all-listed : (end : List ℕ) {calls : List Call} → headerSize ≤ length s → Reading (Listed kinds s) headerSize calls false
+      → pagesText (pageOf kinds s) end (length s) headerSize ≡ flatMap rowText (joined calls) ++ end
+  all-listed end {calls} h r =
+      let n : length calls + headerSize ≤ length s + 1 =
+      number (pageOf kinds s) (Listed kinds s) told-is rows-are not-refused (length s)
+      (λ at. moves (nextAt plausible kinds s) (rowsAt kinds s) (length s) steps-in none at 600) r h in
+      read-text (pageOf kinds s) (Listed kinds s) told-is rows-are not-refused end r refl (length s) (omega arith)

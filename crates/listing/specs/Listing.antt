@@ -5,6 +5,7 @@ use lib.ListN.{length, take, drop}
 use mathlib.Core.Bool.{cond, _&&_}
 use mathlib.Core.List.{List, [], _++_, flatMap}
 use mathlib.Core.Option.{none}
+use mathlib.Core.Path.{_≡_}
 use Rattle.layout.specs.Layout.{leAt, headerSize}
 use Rattle.rows.specs.declared.Row.{Row}
 use Rattle.record.specs.Record.{plausible}
@@ -12,11 +13,19 @@ use Rattle.resync.specs.Search.{SearchTold, searchFrom, defaultWindow}
 use Rattle.seam.specs.Opening.{OpeningTold, openingOf}
 use Rattle.paging.specs.Page.{PageGiven, pageAt}
 use Rattle.seam.specs.Seam.{SeamTold, seamAt}
+use Rattle.cursor.specs.Reading.{Call, told, Asked}
 use Rattle.lines.specs.Lines.{rowText, refusalText, versionText, unbrokenText, brokenText, noneText}
 
 -- 01: "pages of 64 .. into a table of 600 rows"
 abbrev pub pageOf : List ℕ → List ℕ → ℕ → PageGiven
 pageOf kinds s at = pageAt plausible kinds s none at 64 600
+
+-- such a page, as a call has it that is not refused
+pub record Listed (kinds s : List ℕ) (at : ℕ) (c : Call) : Type 0 where
+  pub asked : Asked plausible kinds s at c
+  pub count-is : c .count ≡ 64
+  pub room-is : length (c .lent) ≡ 600
+  pub good : told c .refusal ≡ 0
 
 -- what follows a page's rows: the next page, or what comes after the last
 abbrev pub afterPage : PageGiven → (ℕ → List ℕ) → List ℕ → List ℕ
