@@ -5,7 +5,7 @@ use lib.ListN.{length}
 use mathlib.Core.Bool.{false}
 use mathlib.Core.List.{List}
 use mathlib.Core.Option.{none}
-use mathlib.Core.Path.{_≡_, sym, ap, subst, _∙_}
+use mathlib.Core.Path.{_≡_, sym, ap, _∙_}
 use Rattle.layout.specs.Layout.{headerSize, traceLimit}
 use Rattle.record.specs.Record.{Limits, nextAt}
 use Rattle.rows.specs.Rows.{rowsAt}

@@ -1,19 +1,18 @@
 -- The gaps of a page: the first row's counts from the time before, and is 0 with none given; every other's is the difference to the row before. Assumes nothing.
-use Prim.Native.Nat.{ℕ, zero, suc, _+_, _≤_, _<_}
-use lib.Dec.{ltb, eqb}
-use lib.IntN.{ℤ, pos, _-ℤ_}
+use Prim.Native.Nat.{ℕ, zero, suc, _<_}
+use lib.Dec.{ltb}
+use lib.IntN.{ℤ, _-ℤ_}
 use lib.ListN.{length, getD}
-use mathlib.Core.Bool.{Bool, true, false, cond}
-use mathlib.Core.List.{List, [], _∷_, _++_}
-use mathlib.Core.Option.{Option, none, some}
-use mathlib.Core.Path.{_≡_, refl, sym, ap, subst, _∙_}
+use mathlib.Core.List.{List, [], _∷_}
+use mathlib.Core.Option.{Option, some}
+use mathlib.Core.Path.{_≡_, refl}
 use native.Mathlib.Numerals.{add-one}
 use native.Mathlib.Omega.{arith}
 use Rattle.choice.proofs.Choice.{by-choice}
-use Rattle.resync.specs.Search.{SearchTold, searched, defaultWindow}
+use Rattle.resync.specs.Search.{searched, defaultWindow}
 use Rattle.rows.specs.declared.Row.{Row}
 use Rattle.paging.proofs.Pages.{length-gapped}
-use Rattle.paging.specs.Page.{withGap, gapped, Taken, taken, PageGiven, withNone, lentTo, pageOf, pageFrom}
+use Rattle.paging.specs.Page.{gapped, taken, PageGiven, pageFrom}
 use Rattle.steps.specs.Step.{gapOf, blankRow}
 use Rattle.cursor.specs.Reading.{Gaps}
 

@@ -1,22 +1,21 @@
 -- Pages of an unbroken stretch: what a page takes and what is left after it are all the rows, and less is left. Over any record test and any rows
 -- of a record. Assumes nothing.
-use Prim.Native.Nat.{ℕ, zero, suc, _+_, _-_, _≤_, _<_}
-use borrow.Author.Tests.{lt-ltb, le-ltb, ltb-true, ltb-false, eqb-true, eqb-false, eq-eqb, ne-eqb}
+use Prim.Native.Nat.{ℕ, suc, _+_, _-_, _≤_}
+use borrow.Author.Tests.{ne-eqb}
 use lib.Dec.{ltb, eqb}
 use lib.IntN.{ℤ, pos}
 use lib.ListN.{length}
-use mathlib.Core.Bool.{Bool, true, false, cond}
-use mathlib.Core.List.{List, [], _∷_, _++_, append-assoc, flatMap, map}
+use mathlib.Core.Bool.{cond}
+use mathlib.Core.List.{List, [], _∷_, _++_, append-assoc}
 use mathlib.Core.Option.{Option, none, some}
-use mathlib.Core.Path.{_≡_, refl, sym, ap, subst, _∙_}
+use mathlib.Core.Path.{_≡_, refl, sym, ap, _∙_}
 use native.Mathlib.Omega.{arith}
 use Rattle.choice.proofs.Choice.{either}
 use Rattle.layout.specs.Layout.{headerSize, traceLimit}
 use Rattle.record.proofs.Steps.{Steps}
-use Rattle.resync.specs.Search.{SearchTold, searched, found, nothing, defaultWindow}
 use Rattle.rows.specs.declared.Row.{Row}
 use Rattle.seam.specs.Seam.{Unbroken, ends, more}
-use Rattle.paging.specs.Page.{withGap, gapped, Taken, none-taken, with-record, takenAt, taken, PageTold, PageGiven, goingOn, lastPage, pageRefused, withNone, nextTold, lentTo, pageOf, pageFrom}
+use Rattle.paging.specs.Page.{withGap, gapped, Taken, none-taken, with-record, taken, PageGiven, goingOn, lastPage, pageRefused, withNone, lentTo, pageOf, pageFrom}
 use Rattle.cursor.specs.Reading.{bare, rowsFrom}
 use Rattle.seam.proofs.Walks.{past-end, stopped, goes-on}
 use Rattle.seam.proofs.Boundaries.{finds, finds-none}

@@ -1,14 +1,14 @@
 -- Reading an unbroken stretch page by page: the pages end, and joined, gaps aside, they are the rows of every record. Over any record test and
 -- any rows of a record. Assumes nothing.
-use Prim.Native.Nat.{ℕ, zero, suc, _+_, _-_, _≤_, _<_}
-use borrow.Author.Tests.{ltb-true, ltb-false}
+use Prim.Native.Nat.{ℕ, zero, suc, _+_, _≤_, _<_}
+use borrow.Author.Tests.{ltb-false}
 use lib.Dec.{ltb}
-use lib.IntN.{ℤ, pos}
+use lib.IntN.{ℤ}
 use lib.ListN.{length, drop}
 use mathlib.Core.Bool.{Bool, true, false, cond, false≢true}
 use mathlib.Core.List.{List, [], _∷_, _++_, append-nil, flatMap}
-use mathlib.Core.Option.{Option, none, some}
-use mathlib.Core.Path.{_≡_, refl, sym, ap, subst, _∙_}
+use mathlib.Core.Option.{Option, some}
+use mathlib.Core.Path.{_≡_, refl, sym, ap, _∙_}
 use native.Mathlib.Omega.{arith}
 use Rattle.choice.proofs.Choice.{either}
 use Rattle.layout.specs.Layout.{headerSize, traceLimit}

@@ -1,12 +1,12 @@
 -- Towards demand 3: that the rows of records have no gaps to put aside, and the demand from the check's answer. Assumes nothing.
-use Prim.Native.Nat.{ℕ, suc, _+_, _≤_}
-use lib.IntN.{ℤ, pos}
+use Prim.Native.Nat.{ℕ, _+_, _≤_}
+use lib.IntN.{pos}
 use lib.ListN.{length}
 use mathlib.Core.Bool.{Bool}
-use mathlib.Core.List.{List, [], _∷_, _++_}
+use mathlib.Core.List.{List, [], _∷_}
 use mathlib.Core.Logic.{_↔_}
 use mathlib.Core.Option.{Option, none, some}
-use mathlib.Core.Path.{_≡_, refl, sym, ap, subst, _∙_}
+use mathlib.Core.Path.{_≡_, refl, sym, ap, _∙_}
 use Rattle.ticks.specs.Ticks.{unixMillis}
 use Rattle.layout.specs.Layout.{headerSize, traceLimit}
 use Rattle.layout.specs.Fields.{ticksAt}
@@ -19,7 +19,6 @@ use Rattle.rows.specs.declared.Row.{Row}
 use Rattle.seam.specs.Seam.{Unbroken, Broken, seamAt, toldSeam}
 use Rattle.seam.specs.declared.Seam.{Seam}
 use Rattle.seam.specs.declared.Seam.the-variants as Seam
-use Rattle.paging.specs.Page.{withGap}
 use Rattle.cursor.specs.Demand.{Demand}
 use Rattle.cursor.specs.Reading.{Call, Asked, Roomy, Reading, last, more, bare, rowsFrom}
 use Rattle.seam.proofs.Only.{only-seam}

@@ -1,27 +1,25 @@
 -- The rows of steps are the page's rows: as many steps as a page has rows, from its start, give the rows of the records that it takes, each with its gap.
 -- Assumes nothing.
-use Prim.Native.Nat.{ℕ, zero, suc, _+_, _-_, _≤_, _<_}
+use Prim.Native.Nat.{ℕ, zero, suc, _+_, _-_, _≤_}
 use lib.Dec.{eqb}
-use lib.IntN.{ℤ, pos, natAbs}
+use lib.IntN.{ℤ}
 use lib.ListN.{length, take, length-append}
-use mathlib.Core.Bool.{Bool, true, false, cond}
 use mathlib.Core.List.{List, [], _∷_, _++_, append-assoc}
 use mathlib.Core.Option.{Option, none, some}
-use mathlib.Core.Path.{_≡_, refl, sym, ap, subst, _∙_}
+use mathlib.Core.Path.{_≡_, refl, sym, ap, _∙_}
 use native.Mathlib.Omega.{arith}
 use Rattle.choice.proofs.Choice.{either}
-use Rattle.ticks.specs.Ticks.{unixMillis}
 use Rattle.layout.specs.Layout.{traceLimit}
-use Rattle.layout.specs.Fields.{ticksAt, kindAt, outgoingAt}
+use Rattle.layout.specs.Fields.{kindAt, outgoingAt}
 use Rattle.record.proofs.Steps.{Steps}
 use Rattle.record.proofs.Valid.{record-steps}
 use Rattle.record.specs.Record.{Limits, nextAt}
 use Rattle.rows.proofs.Walk.{one-more}
-use Rattle.rows.specs.Frames.{Placed, firstOf, framesFrom}
-use Rattle.rows.specs.Rows.{rowOf, payloadAt, framesAt, numbered, rowsAt}
+use Rattle.rows.specs.Frames.{Placed, firstOf}
+use Rattle.rows.specs.Rows.{payloadAt, framesAt, numbered, rowsAt}
 use Rattle.rows.specs.declared.Row.{Row}
 use Rattle.seam.specs.Walk.{walk}
-use Rattle.paging.specs.Page.{withGap, gapped, Taken, none-taken, with-record, taken}
+use Rattle.paging.specs.Page.{withGap, gapped, Taken, taken}
 use Rattle.steps.specs.Step.{Sound, gapOf, beforeOf, startPlace, movedTo, StepTold, rowStep, stepFrom, stepOn, stepOf, rowsOf}
 use Rattle.steps.specs.declared.Place.{Place}
 use Rattle.paging.proofs.Pages.{taken-stops, taken-on, length-gapped}

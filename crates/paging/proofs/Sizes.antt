@@ -1,11 +1,10 @@
 -- The size that a page tells is the number of its rows, for every count and room; and a table with as many rows as the trace has bytes is never
 -- refused with 7. Assumes nothing.
-use Prim.Native.Nat.{ℕ, _+_, _-_, _^_, _≤_, _<_}
+use Prim.Native.Nat.{ℕ, _+_, _-_, _≤_}
 use borrow.Author.Tests.{ltb-true, eqb-true}
 use lib.Dec.{ltb, eqb}
 use lib.IntN.{ℤ}
 use lib.ListN.{length, drop, length-append, length-take}
-use mathlib.Core.Bool.{true, false}
 use mathlib.Core.List.{List}
 use mathlib.Core.Option.{Option, none, some}
 use mathlib.Core.Path.{_≡_, refl, sym, ap, _∙_}

@@ -1,26 +1,25 @@
 -- What a valid record's header, as the record test told it, says of the record at its place. Assumes nothing.
-use Prim.Native.Nat.{ℕ, _+_, _-_, _≤_, _<_}
-use lib.IntN.{ℤ, pos, natAbs}
+use Prim.Native.Nat.{ℕ, _+_, _-_, _≤_}
+use lib.IntN.{pos, natAbs}
 use lib.ListN.{length, take, drop, length-drop}
 use lib.Seq.{length-take-le}
-use mathlib.Core.Bool.{Bool, true}
 use mathlib.Core.List.{List}
-use mathlib.Core.Option.{Option, some}
+use mathlib.Core.Option.{some}
 use mathlib.Core.Path.{_≡_, refl, sym, ap, _∙_}
 use native.Mathlib.Omega.{arith}
 use Rattle.ticks.specs.Ticks.{unixMillis}
 use Rattle.layout.specs.Layout.{traceLimit}
 use Rattle.layout.specs.Fields.{ticksAt, lengthAt, outgoingAt, kindAt, nextPlace}
 use Rattle.record.proofs.Answers.{is-one, next-one}
-use Rattle.record.proofs.Valid.{record-steps, valid-inside, valid-grows, valid-time}
-use Rattle.record.specs.Record.{Limits, plausible, valid, nextAt, RecordTold, fieldsAt, recordAt, toldRecord}
+use Rattle.record.proofs.Valid.{valid-inside}
+use Rattle.record.specs.Record.{plausible, nextAt, RecordTold, recordAt, toldRecord}
 use Rattle.record.specs.declared.RecordHeader.{RecordHeader}
 use Rattle.record.specs.declared.Record.{Record}
 use Rattle.record.specs.declared.Record.the-variants.{Valid}
 use Rattle.steps.specs.Step.{latest}
 use Rattle.steps.proofs.Tests.{told-fits, time-most}
 use Rattle.rows.specs.Rows.{payloadAt, framesAt}
-use Rattle.rows.specs.Frames.{Placed, framesFrom}
+use Rattle.rows.specs.Frames.{framesFrom}
 
 pub record Header (kinds s : List ℕ) (at : ℕ) (h : RecordHeader) : Type 0 where
   pub size : h .«payload_len» ≡ lengthAt s at

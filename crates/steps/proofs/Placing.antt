@@ -1,12 +1,12 @@
 -- What is told of a step that the code puts together. Assumes nothing.
 use Prim.Native.Nat.{ℕ, _+_}
 use lib.IntN.{ℤ, pos}
-use mathlib.Core.Bool.{Bool, true}
-use mathlib.Core.Path.{_≡_, refl, ap, _∙_}
+use mathlib.Core.Bool.{true}
+use mathlib.Core.Path.{_≡_}
 use Rattle.pti.specs.declared.PtiFrame.{PtiFrame}
 use Rattle.rows.specs.Rows.{rowOf}
 use Rattle.rows.specs.declared.Row.{Row}
-use Rattle.steps.specs.Step.{gapOf, beforeOf, blankRow, startPlace, StepTold, nowhere, refusalOf, isPlaceOf, isRowOf, rowStepAt, toldStep}
+use Rattle.steps.specs.Step.{gapOf, beforeOf, blankRow, startPlace, refusalOf, isPlaceOf, isRowOf, rowStepAt, toldStep}
 use Rattle.steps.specs.declared.Place.{Place}
 use Rattle.steps.specs.declared.Step.{Step}
 use Rattle.steps.specs.declared.StepAnswer.{StepAnswer}

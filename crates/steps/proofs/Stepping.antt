@@ -2,9 +2,9 @@
 use Prim.Native.Nat.{ℕ, _+_, _≤_, _<_}
 use borrow.Author.Tests.{ltb-false, lt-ltb, le-ltb}
 use lib.Dec.{ltb}
-use lib.IntN.{ℤ, pos, natAbs}
+use lib.IntN.{pos, natAbs}
 use lib.ListN.{length}
-use mathlib.Core.Bool.{Bool, true, false, _||_, cond, true≢false}
+use mathlib.Core.Bool.{Bool, true, false, _||_, true≢false}
 use mathlib.Core.List.{List}
 use mathlib.Core.Option.{Option, none, some}
 use mathlib.Core.Path.{_≡_, refl, sym, ap, _∙_}
@@ -15,7 +15,7 @@ use Rattle.layout.specs.Fields.{ticksAt, kindAt, outgoingAt}
 use Rattle.pti.specs.declared.PtiFrame.{PtiFrame}
 use Rattle.layout.specs.Layout.{traceLimit}
 use Rattle.record.proofs.Valid.{record-steps}
-use Rattle.record.specs.Record.{Limits, plausible, nextAt}
+use Rattle.record.specs.Record.{Limits, nextAt}
 use Rattle.rows.specs.Frames.{firstOf}
 use Rattle.rows.proofs.Walk.{one-more}
 use Rattle.rows.specs.Rows.{framesAt, payloadAt}

@@ -1,6 +1,6 @@
 -- `steps::step_from` meets its contract. The invariant: the place reached is one that a page comes to, and gives the same step as the place given.
 -- The measure is what is left of the trace. Assumes nothing.
-use Prim.Native.Nat.{_+_, _-_, _≤_}
+use Prim.Native.Nat.{_-_}
 use native.Mathlib.Omega.{arith}
 use lib.ListN.{length}
 use mathlib.Core.Path.{_≡_, refl, sym, ap, _∙_}
