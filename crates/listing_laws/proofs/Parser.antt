@@ -13,7 +13,7 @@ use Rattle.zniffer_numbers.specs.declared.Core.{Core}
 use Rattle.zniffer_numbers.specs.declared.CoreStep.{CoreStep}
 use Rattle.zniffer_numbers.specs.declared.ParserResult.{ParserResult}
 use Rattle.zniffer_numbers.specs.declared.ParserResult.the-variants.{ValidCommand, ValidFrame, IncompleteFrame, InvalidFrame}
-use Rattle.zniffer_states.specs.Tests.{commandOk, typeOk, regionOk, noRegion, noChannel, noFrame, timed, placed, framed, headed, reachableOf}
+use Rattle.zniffer_tests.specs.Tests.{commandOk, typeOk, regionOk, noRegion, noChannel, noFrame, timed, placed, framed, headed, reachableOf}
 use Rattle.zniffer_states.specs.Step.{withLength, going, done, startOfFrame, commandId, typeByte, timeByte, placeByte, regionByte, rssiByte, dataOne, dataTwo, lengthByte, whole, payloadByte, takeOf}
 use Rattle.zniffer_states.proofs.Laws.{both, by-state}
 use Rattle.zniffer_core.specs.Run.{coreStepOf, coreRunFrom}

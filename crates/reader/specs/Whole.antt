@@ -25,6 +25,6 @@ readSome (suc n) kinds s r =
     (nextOf kinds s r ∷ readSome n kinds s (onward (nextOf kinds s r)))
     (nextOf kinds s r ∷ [])
 
--- as many steps as there are bytes after the place, and one
+-- as many steps as there are bytes after the place, and one; that they are enough is `enough` of proofs/Laws.antt
 abbrev pub readAll : List ℕ → List ℕ → ZlfReader → List NextTold
 readAll kinds s r = readSome (length s - r .place) kinds s r
