@@ -1,6 +1,6 @@
 -- The next row from a place on: what the code has at each way out and after each record. Assumes nothing.
 use Prim.Native.Nat.{ℕ, _+_, _≤_, _<_}
-use borrow.Author.Tests.{ltb-false, lt-ltb, le-ltb}
+use borrow.Author.Tests.{ltb-true, ltb-false, le-ltb}
 use lib.Dec.{ltb}
 use lib.IntN.{pos, natAbs}
 use lib.ListN.{length}
@@ -46,15 +46,16 @@ module _ (limits : Limits) (kinds s : List ℕ) (p q : Place) (inv : stepOn limi
   abbrev next : ℕ → Option ℕ
   next = nextAt limits kinds s
 
-  pub no-row : (length s ≤ traceLimit → next at ≡ none) → (r : StepTold) → r ≡ unlessLong s (noStep q) → r ≡ unlessLong s (stepOn limits kinds s p)
+  pub no-row : (traceLimit < length s → q ≡ p) → (length s ≤ traceLimit → next at ≡ none) → (r : StepTold) → r ≡ unlessLong s q (noStep q) → r ≡ unlessLong s p (stepOn limits kinds s p)
   unfolding stepOn
-  no-row e r r-is =
+  no-row same e r r-is =
       r-is
-      ∙ either (ltb traceLimit (length s)) (λ yes′. rw yes′)
-      (λ no′. ap (unlessLong s) (sym (step-stops limits kinds s q at (q .index) (q .position) (e (ltb-false traceLimit (length s) no′))) ∙ inv))
+      ∙ either (ltb traceLimit (length s))
+      (λ yes′. rw yes′ (ap (nowhere 1) (same (ltb-true traceLimit (length s) yes′))))
+      (λ no′. rw no′ (sym (step-stops limits kinds s q at (q .index) (q .position) (e (ltb-false traceLimit (length s) no′))) ∙ inv))
 
   pub a-row : length s ≤ traceLimit → (m millis after : ℕ) (f : PtiFrame) → next at ≡ some m → pos millis ≡ unixMillis (ticksAt s at) → Next.Frame f after ≡ firstOf (framesAt kinds s at (q .index))
-      → (r : StepTold) → r ≡ rowStepAt q (pos millis) millis f after → r ≡ unlessLong s (stepOn limits kinds s p)
+      → (r : StepTold) → r ≡ rowStepAt q (pos millis) millis f after → r ≡ unlessLong s p (stepOn limits kinds s p)
   unfolding stepOn
   a-row fits m millis after f e t n r r-is =
       let time : millis ≡ natAbs (unixMillis (ticksAt s at)) = ap natAbs t in
@@ -92,15 +93,11 @@ pub is-sound : (p : Place) → Sound p → unsound p ≡ false
 is-sound p s = simp (le-ltb (p .index) (p .position) (s .counted), le-ltb latest (p .previous) (s .timed))
 
 module _ (limits : Limits) (kinds s : List ℕ) (p : Place) where
-  pub too-long : traceLimit < length s → nowhere 1 ≡ stepOf limits kinds s p
+  pub no-place : unsound p ≡ true → unlessLong s p (nowhere 0 p) ≡ stepOf limits kinds s p
   unfolding stepOf
-  too-long h = rw (lt-ltb traceLimit (length s) h)
+  no-place e = rw e
 
-  pub no-place : length s ≤ traceLimit → unsound p ≡ true → nowhere 0 ≡ stepOf limits kinds s p
-  unfolding stepOf
-  no-place h e = rw (le-ltb traceLimit (length s) h) (rw e)
-
-  pub one-from : unsound p ≡ false → unlessLong s (stepOn limits kinds s p) ≡ stepOf limits kinds s p
+  pub one-from : unsound p ≡ false → unlessLong s p (stepOn limits kinds s p) ≡ stepOf limits kinds s p
   unfolding stepOf
   one-from e = rw e
 
@@ -138,4 +135,4 @@ module _ (limits : Limits) (low : 630822816000000000 ≤ limits .low) (high : li
   pub sound-next : Sound (stepOf limits kinds s p .next)
   sound-next =
       rw (sym (one-from limits kinds s p (is-sound p sound)))
-      (by-choice (λ (t : StepTold). Sound (t .next)) (ltb traceLimit (length s)) (λ _. sound-start 0) (λ _. on-next))
+      (by-choice (λ (t : StepTold). Sound (t .next)) (ltb traceLimit (length s)) (λ _. sound) (λ _. on-next))

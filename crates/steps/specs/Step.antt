@@ -99,13 +99,13 @@ rowStep s p Next.End rest = rest
 abbrev pub noStep : Place → StepTold
 noStep p = record { refusal = 0; isPlace = true; isRow = false; row = blankRow; next = p }
 
--- no step at all, with the refusal's number or 0; all else is 0
-abbrev pub nowhere : ℕ → StepTold
-nowhere refusal = record { refusal = refusal; isPlace = false; isRow = false; row = blankRow; next = startPlace 0 }
+-- no step at all, with the refusal's number or 0: the place is as given, as 01 has it of the sequential reader's, and all else is 0
+abbrev pub nowhere : ℕ → Place → StepTold
+nowhere refusal p = record { refusal = refusal; isPlace = false; isRow = false; row = blankRow; next = p }
 
 -- refusal 1: "the trace is over 1,073,741,824 bytes (all calls on a trace)"
-abbrev pub unlessLong : List ℕ → StepTold → StepTold
-unlessLong s t = cond (ltb traceLimit (length s)) (nowhere 1) t
+abbrev pub unlessLong : List ℕ → Place → StepTold → StepTold
+unlessLong s p t = cond (ltb traceLimit (length s)) (nowhere 1 p) t
 
 -- from the record at a place on, at an index of its payload and a position; p says the time before
 abbrev pub stepAt : List ℕ → List ℕ → Place → ℕ → (ℕ → ℕ → StepTold) → ℕ → ℕ → StepTold
@@ -124,7 +124,7 @@ stepOn limits kinds s p = stepFrom limits kinds s p (p .offset) (p .index) (p .p
 -- a place that no page comes to is told as none. That a page's first place is not one of these, nor the place after a row, is `sound-start` and
 -- `sound-next` of proofs/Stepping.antt
 unfoldable pub stepOf : Limits → List ℕ → List ℕ → Place → StepTold
-stepOf limits kinds s p = unlessLong s (cond (unsound p) (nowhere 0) (stepOn limits kinds s p))
+stepOf limits kinds s p = unlessLong s p (cond (unsound p) (nowhere 0 p) (stepOn limits kinds s p))
 
 -- the rows of n steps
 unfoldable pub rowsOf : Limits → List ℕ → List ℕ → Place → ℕ → List Row

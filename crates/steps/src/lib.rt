@@ -13,7 +13,11 @@ ghost use Rattle.record.specs.Record.{plausible};
 ghost use Rattle.rows.specs.Frames.{firstOf, framesFrom};
 ghost use Rattle.rows.specs.Rows.{rowOf};
 ghost use lib.IntN.{pos};
-ghost use Rattle.steps.specs.Step.{latest, Sound, gapOf, beforeOf, blankRow, startPlace, movedTo, noStep, unlessLong, rowStepAt, stepOn, stepOf, toldStep};
+ghost use lib.Dec.{ltb};
+ghost use mathlib.Core.Bool.{cond};
+ghost use Rattle.layout.specs.Layout.{traceLimit};
+ghost use Rattle.steps.specs.declared.StepAnswer.the-variants.{TraceTooLong};
+ghost use Rattle.steps.specs.Step.{latest, Sound, gapOf, beforeOf, blankRow, movedTo, unlessLong, rowStepAt, stepOn, stepOf, toldStep};
 
 // The largest time that a valid record can have, in milliseconds.
 const LATEST: u64 = 4_112_352_000_000;
@@ -105,36 +109,22 @@ pub fn blank() -> Row
     }
 }
 
-// No step at all, for the reason that the answer names.
-fn no_step(answer: StepAnswer) -> Step
-    ensures { λ r. ⌜ (r .row ≡ blankRow) × (r .next ≡ startPlace 0) × (r .answer ≡ answer) ⌝ }
+// No row comes from a place, for the reason that the answer names, or because the trace is too long.
+fn no_step(s: &[u8], p: Place, answer: StepAnswer) -> Step
+    ensures { λ r. ⌜ (r .row ≡ blankRow) × (r .next ≡ p) × (r .answer ≡ cond (ltb traceLimit (length (now (s .entry)))) TraceTooLong answer) ⌝ }
 {
     let row = blank();
-    Step {
-        row,
-        next: Place {
-            offset: 0,
-            index: 0,
-            position: 0,
-            has_previous: false,
-            previous: 0,
-        },
-        answer,
-    }
-}
-
-// No valid record is at a place.
-fn end_at(s: &[u8], p: Place) -> Step
-    ensures { λ r. ⌜ toldStep r ≡ unlessLong (now (s .entry)) (noStep p) ⌝ }
-{
     if TRACE_LIMIT < s.len() {
-        return no_step(StepAnswer::TraceTooLong);
+        return Step {
+            row,
+            next: p,
+            answer: StepAnswer::TraceTooLong,
+        };
     }
-    let row = blank();
     Step {
         row,
         next: p,
-        answer: StepAnswer::End,
+        answer,
     }
 }
 
@@ -174,12 +164,12 @@ fn moved_to(p: Place, at: usize) -> Place
 // The next row from a place on, in its record or in those that follow it.
 fn step_from(kinds: &[u8; 256], s: &[u8], p: Place) -> Step
     requires { ⌜ Sound p ⌝ }
-    ensures { λ r. ⌜ toldStep r ≡ unlessLong (now (s .entry)) (stepOn plausible (now (kinds .entry)) (now (s .entry)) p) ⌝ }
+    ensures { λ r. ⌜ toldStep r ≡ unlessLong (now (s .entry)) p (stepOn plausible (now (kinds .entry)) (now (s .entry)) p) ⌝ }
 {
     let mut at = p;
     loop {
         let Record::Valid { header } = record::read_record(kinds, s, at.offset) else {
-            return end_at(s, at);
+            return no_step(s, at, StepAnswer::End);
         };
         if let Next::Frame { frame, next } = frame_in(s, at, header) {
             return row_step(at, header.unix_millis, frame, next);
@@ -193,10 +183,7 @@ pub fn step_at(kinds: &[u8; 256], s: &[u8], p: Place) -> Step
     ensures { λ r. ⌜ toldStep r ≡ stepOf plausible (now (kinds .entry)) (now (s .entry)) p ⌝ }
 {
     if (p.index < p.position) | (LATEST < p.previous) {
-        if TRACE_LIMIT < s.len() {
-            return no_step(StepAnswer::TraceTooLong);
-        }
-        return no_step(StepAnswer::NoSuchPlace);
+        return no_step(s, p, StepAnswer::NoSuchPlace);
     }
     step_from(kinds, s, p)
 }
