@@ -62,6 +62,7 @@ const INPUTS: &[Input] = &[
     input("nine seeks, 100 MiB", || traces::of(Kind::Ordinary, 100 * MIB), 0, seek::rust, seek::port),
     input("nine stepped seeks, 100 MiB", || traces::of(Kind::Ordinary, 100 * MIB), 1, seek::rust, seek::port),
     input("parser, 1 MiB of frames", || traces::stream(MIB), 0, parser::rust, parser::port),
+    input("parser, 1 MiB of commands", || traces::commands(MIB), 0, commands::rust, commands::port),
     input("parser, 1 MiB of noise", || traces::repeated("noise", MIB), 0, parser::rust, parser::port),
     input("seam check, 100 MiB", || traces::of(Kind::Ordinary, 100 * MIB), 0, seam::rust, seam::port),
 ];
@@ -264,6 +265,35 @@ mod parser {
                 }
                 3 => a[2] += 1,
                 _ => {}
+            }
+            rest = &rest[r.used..];
+        }
+        a
+    }
+}
+
+/// The same for commands and their bytes.
+mod commands {
+    use super::*;
+
+    pub fn rust(bytes: &[u8], _: u64) -> Answer {
+        let (mut p, mut a) = (Parser::new(), [0; 3]);
+        for byte in black_box(bytes) {
+            if let ParserResult::ValidCommand { payload, .. } = p.parse(*byte) {
+                a[0] += 1;
+                a[1] += payload.len() as u64;
+            }
+        }
+        a
+    }
+
+    pub fn port(bytes: &[u8], _: u64) -> Answer {
+        let (mut p, mut a, mut rest) = (unsafe { sys::zlf_fresh() }, [0; 3], black_box(bytes));
+        while !rest.is_empty() {
+            let r = unsafe { sys::zlf_parse(&mut p, rest.as_ptr(), rest.len()) };
+            if r.result.which == 1 {
+                a[0] += 1;
+                a[1] += r.result.length as u64;
             }
             rest = &rest[r.used..];
         }

@@ -130,6 +130,18 @@ pub fn stream(size: usize) -> Vec<u8> {
     bytes
 }
 
+/// So many bytes of commands, one after the other, each with 0 to 31 bytes.
+pub fn commands(size: usize) -> Vec<u8> {
+    let mut noise = Noise(3);
+    let mut bytes = Vec::with_capacity(size + 64);
+    while bytes.len() < size {
+        let (id, n) = ([1, 2, 3, 4, 5, 14, 19][noise.byte() as usize % 7], noise.byte() % 32);
+        bytes.extend([0x23, id, n]);
+        bytes.extend((0..n).map(|_| noise.byte()));
+    }
+    bytes
+}
+
 /// A header, and so many bytes of one thing over and over: noise, bytes alone, near misses of each of the later conditions, and records.
 pub fn repeated(what: &str, size: usize) -> Vec<u8> {
     let one = |length: i32, first: u8, end: u8| {
