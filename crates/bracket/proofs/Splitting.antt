@@ -1,9 +1,9 @@
 -- Splitting a payload: a body lies inside the payload, the next place is further on and inside it too, and steps taken from a place to the end
 -- give exactly the bodies from there. Assumes nothing.
 use Prim.Native.Nat.{ℕ, zero, suc, _+_, _-_, _<_, _≤_}
-use lib.Dec.{eqb, ltb}
-use lib.ListN.{length, getD}
-use mathlib.Core.Bool.{Bool, true, false, _&&_, cond}
+use lib.Dec.{ltb}
+use lib.ListN.{length}
+use mathlib.Core.Bool.{Bool, true, false, cond}
 use mathlib.Core.List.{List, [], _∷_, _++_, List·Memᴰ, List·Memᴰ·not-nil, List·Memᴰ·eq-of-singleton, List·Memᴰ·append-cases}
 use mathlib.Core.Logic.{⊎-elim}
 use mathlib.Core.Path.{_≡_, refl, sym, ap, subst, _∙_}

@@ -1,9 +1,8 @@
 -- The walk over a payload's bracket records: more turns than bytes change nothing, so the walk is what its first record makes of the rest.
 -- Assumes nothing.
 use Prim.Native.Nat.{ℕ, zero, suc, _+_, _<_, _≤_}
-use lib.Dec.{eqb, ltb}
 use lib.ListN.{length, getD}
-use mathlib.Core.Bool.{Bool, true, false, _&&_, cond, and-false}
+use mathlib.Core.Bool.{true, false, cond, and-false}
 use mathlib.Core.List.{List}
 use mathlib.Core.Path.{_≡_, refl, sym, ap, _∙_}
 use native.Mathlib.Nat.{add-zero}

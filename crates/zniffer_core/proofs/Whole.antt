@@ -18,7 +18,7 @@ use Rattle.zniffer_starts.specs.Header.{noHead, commandHeads, frameHeads, comma
 use Rattle.zniffer_starts.specs.declared.headers.Head.{Head}
 use Rattle.zniffer_states.proofs.Laws.{both, in-state, room}
 use Rattle.zniffer_core.specs.Run.{coreStepOf, coreRunFrom}
-use Rattle.zniffer_core.proofs.Kept.{whole-half, at-0}
+use Rattle.zniffer_core.proofs.Kept.{whole-half, top, low, at-0}
 use Rattle.zniffer_core.proofs.RunLaws.{taken, on, run-last}
 use Rattle.zniffer_core.proofs.Skips.{later, skipped, still}
 
@@ -62,34 +62,28 @@ module _ (t : ℕ) (type-ok : typeOk t ≡ true) where
   place-step w p = rw type-ok
 
   module _ (w p : ℕ) (p-fits : p < 256) (g : ℕ) (region-ok : regionOk g ≡ true) where
-    top : ltb (p / 32) 8 ≡ true
-    top = lt-ltb (p / 32) 8 (omega arith)
-
-    rest : ltb (p % 32) 32 ≡ true
-    rest = lt-ltb (p % 32) 32 (omega arith)
-
     region-step : coreStepOf (core 7 0 0 0 t w false (p / 32) (p % 32) 0 0) g ≡ going (core 8 0 0 0 t w false (p / 32) (p % 32) g 0)
     unfolding coreStepOf
-    region-step = rw (type-ok, top, rest, region-ok)
+    region-step = rw (type-ok, top p p-fits, low p, region-ok)
 
     rssi-step : (r : ℕ) → coreStepOf (core 8 0 0 0 t w false (p / 32) (p % 32) g 0) r ≡ going (core 9 0 0 0 t w false (p / 32) (p % 32) g r)
     unfolding coreStepOf
-    rssi-step r = rw (type-ok, top, rest, region-ok)
+    rssi-step r = rw (type-ok, top p p-fits, low p, region-ok)
 
     one-step : (r : ℕ) → coreStepOf (core 9 0 0 0 t w false (p / 32) (p % 32) g r) 0x21 ≡ going (core 10 0 0 0 t w false (p / 32) (p % 32) g r)
     unfolding coreStepOf
-    one-step r = rw (type-ok, top, rest, region-ok)
+    one-step r = rw (type-ok, top p p-fits, low p, region-ok)
 
     two-step : (r : ℕ) → coreStepOf (core 10 0 0 0 t w false (p / 32) (p % 32) g r) 0x03 ≡ going (core 2 0 0 0 t w false (p / 32) (p % 32) g r)
     unfolding coreStepOf
-    two-step r = rw (type-ok, top, rest, region-ok)
+    two-step r = rw (type-ok, top p p-fits, low p, region-ok)
 
     length-step : (r n : ℕ) → eqb n 0 ≡ false → coreStepOf (core 2 0 0 0 t w false (p / 32) (p % 32) g r) n ≡ going (core 3 0 n 0 t w false (p / 32) (p % 32) g r)
     unfolding coreStepOf
-    length-step r n some = rw (type-ok, top, rest, region-ok, some)
+    length-step r n some = rw (type-ok, top p p-fits, low p, region-ok, some)
 
     frame-passes : (r n : ℕ) → 0 < n → reachableOf (core 3 0 n 0 t w false (p / 32) (p % 32) g r) ≡ true
-    frame-passes r n some = rw (type-ok, top, rest, region-ok, lt-ltb 0 n some)
+    frame-passes r n some = rw (type-ok, top p p-fits, low p, region-ok, lt-ltb 0 n some)
 
 -- what a header says of the bytes that it begins: a run from a fresh parser goes on after it
 pub record Heads (s : List ℕ) (h : Head) : Type 0 where
@@ -182,7 +176,7 @@ no-bytes c h e s a in-s z =
 
 -- a frame's header before its length passes the test
 pub headed-passes : (t w p g r : ℕ) → p < 256 → typeOk t ≡ true → regionOk g ≡ true → reachableOf (core 2 0 0 0 t w false (p / 32) (p % 32) g r) ≡ true
-headed-passes t w p g r p-fits type-ok region-ok = rw (type-ok, top t type-ok w p p-fits g region-ok, rest t type-ok w p p-fits g region-ok, region-ok)
+headed-passes t w p g r p-fits type-ok region-ok = rw (type-ok, top p p-fits, low p, region-ok)
 
 -- the numbers alone of a payload's last byte
 last-byte : (c : Core) (b : ℕ) → reachableOf c ≡ true → c .state ≡ 3 → c .count + 1 ≡ c .length → coreStepOf c b ≡ done (whole c)

@@ -5,7 +5,6 @@ use native.Mathlib.Omega.{arith}
 use lib.ListN.{length}
 use mathlib.Core.Path.{_≡_, refl, sym, _∙_}
 use borrow.Author.Needs.{needs}
-use denote.Ref.{now}
 use Rattle.bracket.specs.Bracket.{nextRecord}
 use Rattle.bracket.proofs.Steps.{none, passed, stopped, found, onward}
 use Rattle.bracket.proofs.next_record.Statement.{statement}

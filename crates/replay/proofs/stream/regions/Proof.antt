@@ -1,5 +1,5 @@
 -- `replay::stream::regions` meets its contract: it is safe and ends. Assumes nothing.
-use Prim.Native.Nat.{_≤_, _<_, _+_, _-_}
+use Prim.Native.Nat.{_≤_, _-_}
 use borrow.Author.Needs.{needs}
 use Rattle.replay.proofs.stream.regions.Statement.{statement}
 use Rattle.replay.proofs.stream.regions.Tie as tie
