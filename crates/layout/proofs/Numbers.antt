@@ -24,6 +24,13 @@ pub four : (s : List ℕ) (at : ℕ)
 unfolding leAt
 four s at = simp add-zero (omega arith)
 
+pub eight-bytes : (s : List ℕ) (at : ℕ)
+    → leAt 8 s at
+    ≡ getD s at 0 + 256 * getD s (at + 1) 0 + 65536 * getD s (at + 2) 0 + 16777216 * getD s (at + 3) 0
+    + 4294967296 * (getD s (at + 4) 0 + 256 * getD s (at + 5) 0 + 65536 * getD s (at + 6) 0 + 16777216 * getD s (at + 7) 0)
+unfolding leAt
+eight-bytes s at = simp add-zero (omega arith)
+
 -- the number of m + n bytes is that of m bytes and, 256 ^ m times, that of the n after them
 pub beside : (m n : ℕ) (s : List ℕ) (at : ℕ) → leAt (m + n) s at ≡ leAt m s at + 256 ^ m * leAt n s (at + m)
 unfolding leAt

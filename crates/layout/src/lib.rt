@@ -49,6 +49,13 @@ fn joined(a: u8, b: u8, c: u8, d: u8) -> u32
     wide(a) + 256 * wide(b) + 65536 * wide(c) + 16777216 * wide(d)
 }
 
+// Two numbers of four bytes, the low one first.
+fn paired(low: u32, high: u32) -> u64
+    ensures { λ r. ⌜ r ≡ low + 4294967296 * high ⌝ }
+{
+    (low as u64) + 4294967296 * (high as u64)
+}
+
 pub fn u16_at(s: &[u8], at: usize) -> u16
     ensures { λ r. ⌜ r ≡ leAt 2 (now (s .entry)) at ⌝ }
 {
@@ -70,15 +77,19 @@ pub fn u32_at(s: &[u8], at: usize) -> u32
     joined(s[at], u8_at(s, at + 1), u8_at(s, at + 2), u8_at(s, at + 3))
 }
 
+// Where eight bytes are there, the compiler reads them at once.
 pub fn u64_at(s: &[u8], at: usize) -> u64
     ensures { λ r. ⌜ r ≡ leAt 8 (now (s .entry)) at ⌝ }
 {
     if s.len() <= at {
         return 0;
     }
-    let low = u32_at(s, at) as u64;
-    let high = u32_at(s, at + 4) as u64;
-    low + 4294967296 * high
+    if 8 <= s.len() - at {
+        let low = joined(s[at], s[at + 1], s[at + 2], s[at + 3]);
+        let high = joined(s[at + 4], s[at + 5], s[at + 6], s[at + 7]);
+        return paired(low, high);
+    }
+    paired(u32_at(s, at), u32_at(s, at + 4))
 }
 
 // The kind of an end byte, by a table of 256 entries; an entry above 4 reads as 0.

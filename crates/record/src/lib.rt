@@ -77,10 +77,10 @@ fn record_at(kinds: &[u8; 256], s: &[u8], offset: usize) -> Record
     ensures { λ r. ⌜ toldRecord r ≡ recordAt plausible (now (kinds .entry)) (now (s .entry)) offset ⌝ }
 {
     let len = s.len();
-    if len <= offset {
+    if len < RECORD_HEADER {
         return Record::Absent;
     }
-    if len - offset < RECORD_HEADER {
+    if len - RECORD_HEADER < offset {
         return Record::Absent;
     }
     let raw_ticks = layout::u64_at(s, offset);

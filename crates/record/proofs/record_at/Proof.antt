@@ -12,9 +12,6 @@ use Rattle.record.proofs.record_at.Tie as tie
 returns : tie.Need-returns
 returns c = short _ _ _ _ (c .before .before .pre) (omega arith)
 
-sub-if2 : tie.Need-sub-if2
-sub-if2 c = search needs
-
 returns-2 : tie.Need-returns-2
 returns-2 c = short _ _ _ _ (c .before .before .before .pre) (omega arith)
 
@@ -106,7 +103,6 @@ record-at-spec =
     tie.close
     (tie.spec
     returns
-    sub-if2
     returns-2
     u64-at-requires
     ticks-requires
