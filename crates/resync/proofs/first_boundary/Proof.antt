@@ -3,11 +3,10 @@ use Prim.Native.Nat.{ℕ, _≤_, _<_, _-_}
 use borrow.Author.Needs.{needs}
 use lib.ListN.{length}
 use mathlib.Core.Bool.{false}
-use mathlib.Core.Logic.{⊎-elim}
 use mathlib.Core.Path.{_≡_, sym, _∙_}
 use native.Mathlib.Omega.{arith}
 use Rattle.resync.proofs.Chain.{no-record}
-use Rattle.resync.proofs.First.{one-more}
+use Rattle.resync.proofs.First.{one-more, both-ranges}
 use Rattle.record.proofs.Valid.{invalid-none}
 use Rattle.resync.specs.Boundary.{boundary}
 use Rattle.record.specs.Record.{plausible, nextAt}
@@ -15,19 +14,16 @@ use Rattle.resync.proofs.first_boundary.Statement.{statement}
 use Rattle.resync.proofs.first_boundary.Tie as tie
 
 abbrev Inv-loop : tie.InvT-loop
-Inv-loop kinds s start limit offset₀ offset =
+Inv-loop kinds s start limit offset₀ near₀ offset near =
     (start ≤ offset)
     × ((offset ≤ limit)
     × ((k : ℕ) → start ≤ k → k < offset → boundary (nextAt plausible kinds s) (length s) k ≡ false))
 
 abbrev μ-loop : tie.MeasureT-loop
-μ-loop kinds s start limit offset₀ offset = limit - offset
+μ-loop kinds s start limit offset₀ near₀ offset near = limit - offset
 
 loop-holds : tie.Need-loop-holds Inv-loop μ-loop
 loop-holds c = (search needs, (search needs, λ k h l. absurd (omega arith)))
-
-may-begin-requires : tie.Need-may-begin-requires Inv-loop μ-loop
-may-begin-requires c κs = search needs
 
 begins-run-requires : tie.Need-begins-run-requires Inv-loop μ-loop
 begins-run-requires c κs = search needs
@@ -37,12 +33,18 @@ returns c =
     record {
       from = search needs;
       within = search needs;
-      none-before = c .before .before .before .before .before .loop .inv .1 .1;
-      passes = λ l. sym (c .before .begins-run .ensures) ∙ c .if2 .taken;
+      none-before = c .before .before .before .loop .inv .1 .1;
+      passes = λ l. sym (c .before .begins-run .ensures) ∙ c .if1 .taken;
     }
 
-add-offset : tie.Need-add-offset Inv-loop μ-loop
-add-offset c = search needs
+add-candidate : tie.Need-add-candidate Inv-loop μ-loop
+add-candidate c = search needs
+
+candidate-requires : tie.Need-candidate-requires Inv-loop μ-loop
+candidate-requires c κs = search needs
+
+sub-near : tie.Need-sub-near Inv-loop μ-loop
+sub-near c = search needs
 
 loop-less : tie.Need-loop-less Inv-loop μ-loop
 loop-less c = search needs
@@ -52,11 +54,9 @@ loop-again c = (
   search needs,
   (
     search needs,
-    one-more _ _ _ (c .before .before .before .loop .inv .1 .1)
-        (⊎-elim
-        (λ w. sym (w .1 .ensures) ∙ w .2 .left)
-        (λ w. no-record _ _ _ (invalid-none _ _ _ _ (c .before .may-begin .ensures _ (w .left))))
-        (c .if1 .came)),
+    both-ranges _ _ _ _
+        (one-more _ _ _ (c .before .before .before .before .loop .inv .1 .1) (sym (c .before .before .begins-run .ensures) ∙ c .before .if1 .left))
+        (λ k h l. no-record _ _ _ (invalid-none _ _ _ _ (c .candidate .ensures .1 .1 _ k h l))),
   ),
 )
 
@@ -76,10 +76,11 @@ first-boundary-spec =
     Inv-loop
     μ-loop
     loop-holds
-    may-begin-requires
     begins-run-requires
     returns
-    add-offset
+    add-candidate
+    candidate-requires
+    sub-near
     loop-less
     loop-again
     returns-2)
