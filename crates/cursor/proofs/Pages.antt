@@ -12,12 +12,12 @@ use mathlib.Core.Path.{_≡_, refl, sym, ap, _∙_}
 use native.Mathlib.Omega.{arith}
 use Rattle.choice.proofs.Choice.{either}
 use Rattle.layout.specs.Layout.{headerSize, traceLimit}
-use Rattle.record.proofs.Steps.{Steps}
+use Rattle.record.proofs.Steps.{Steps, past-end}
 use Rattle.rows.specs.declared.Row.{Row}
 use Rattle.seam.specs.Seam.{Unbroken, ends, more}
 use Rattle.paging.specs.Page.{withGap, gapped, Taken, none-taken, with-record, taken, PageGiven, goingOn, lastPage, pageRefused, withNone, lentTo, pageOf, pageFrom}
 use Rattle.cursor.specs.Reading.{bare, rowsFrom}
-use Rattle.seam.proofs.Walks.{past-end, stopped, goes-on}
+use Rattle.seam.proofs.Walks.{stopped, goes-on}
 use Rattle.seam.proofs.Boundaries.{finds, finds-none}
 use Rattle.paging.proofs.Pages.{taken-stops, taken-on}
 

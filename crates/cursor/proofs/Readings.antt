@@ -12,7 +12,7 @@ use mathlib.Core.Path.{_≡_, refl, sym, ap, _∙_}
 use native.Mathlib.Omega.{arith}
 use Rattle.choice.proofs.Choice.{either}
 use Rattle.layout.specs.Layout.{headerSize, traceLimit}
-use Rattle.record.proofs.Steps.{Steps}
+use Rattle.record.proofs.Steps.{Steps, past-end}
 use Rattle.rows.specs.declared.Row.{Row}
 use Rattle.seam.specs.Seam.{Unbroken, ends, more}
 use Rattle.paging.specs.Page.{gapped, Taken, taken, PageTold, PageGiven, goingOn, lastPage, withNone, pageFrom, toldPage}
@@ -21,7 +21,6 @@ use Rattle.paging.specs.declared.Page.the-variants as Page
 use Rattle.paging.proofs.Answers.{page-answer}
 use Rattle.cursor.specs.Reading.{Call, told, pageRows, Roomy, Chosen, Reading, last, more as further, joined, bare, rowsFrom}
 use Rattle.cursor.specs.Table.{Answered}
-use Rattle.seam.proofs.Walks.{past-end}
 use Rattle.seam.proofs.Boundaries.{unbroken-inside}
 use Rattle.cursor.proofs.Held.{rows-held}
 use Rattle.cursor.proofs.Pages.{bare-append, bare-gapped, rows-stop, Part, part-more, page-end, page-given}

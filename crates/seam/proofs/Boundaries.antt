@@ -7,12 +7,11 @@ use mathlib.Core.Option.{Option, none, some}
 use mathlib.Core.Path.{_≡_, refl, sym, ap, _∙_}
 use native.Mathlib.Omega.{arith}
 use Rattle.layout.specs.Layout.{headerSize, traceLimit}
-use Rattle.record.proofs.Steps.{Steps}
+use Rattle.record.proofs.Steps.{Steps, past-end}
 use Rattle.resync.proofs.Searched.{is-there, no-offset}
 use Rattle.resync.specs.Boundary.{boundary}
 use Rattle.resync.specs.Search.{First, startOf, found, nothing, searched, defaultWindow}
 use Rattle.seam.specs.Seam.{Unbroken, ends, more}
-use Rattle.seam.proofs.Walks.{past-end}
 
 or-true : (b : Bool) → (b || true) ≡ true
 or-true true = refl

@@ -12,12 +12,12 @@ use mathlib.Core.Path.{_≡_, refl, sym, ap, subst, _∙_}
 use native.Mathlib.Numerals.{add-one}
 use native.Mathlib.Omega.{arith}
 use Rattle.layout.specs.Layout.{headerSize, traceLimit}
-use Rattle.record.proofs.Steps.{Steps}
+use Rattle.record.proofs.Steps.{Steps, past-end}
 use Rattle.record.proofs.Valid.{record-steps}
 use Rattle.record.specs.Record.{Limits, nextAt}
 use Rattle.resync.specs.Boundary.{onward, after}
 use Rattle.seam.specs.Seam.{Unbroken, ends, more, Broken, Reached, reached, oneMore, reach, SeamTold, unbrokenWith, brokenAt, seamOf, seamFrom, seamAt}
-use Rattle.seam.proofs.Walks.{past-end, by-records}
+use Rattle.seam.proofs.Walks.{by-records}
 use Rattle.seam.proofs.Seams.{reach-stops, reach-on}
 
 module _ (next : ℕ → Option ℕ) (n : ℕ) (steps : Steps next n) where

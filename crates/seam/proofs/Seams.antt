@@ -7,10 +7,10 @@ use mathlib.Core.Option.{Option, none, some}
 use mathlib.Core.Path.{_≡_, refl, sym, ap, _∙_}
 use native.Mathlib.Omega.{arith}
 use Rattle.layout.specs.Layout.{headerSize, traceLimit}
-use Rattle.record.proofs.Steps.{Steps}
+use Rattle.record.proofs.Steps.{Steps, past-end}
 use Rattle.seam.specs.Walk.{walk}
 use Rattle.seam.specs.Seam.{Reached, reached, oneMore, reach, SeamTold, unbrokenWith, brokenAt, seamRefused, seamOf, seamFrom}
-use Rattle.seam.proofs.Walks.{past-end, stopped, goes-on}
+use Rattle.seam.proofs.Walks.{stopped, goes-on}
 
 module _ (next : ℕ → Option ℕ) (n : ℕ) (steps : Steps next n) where
   pub reach-stops : (at : ℕ) → next at ≡ none → reach next n at ≡ reached at 0

@@ -3,18 +3,10 @@ use Prim.Native.Nat.{ℕ, zero, suc, _+_, _≤_, _<_}
 use mathlib.Core.Option.{Option, none, some}
 use mathlib.Core.Path.{_≡_, refl, sym, ap, _∙_}
 use native.Mathlib.Omega.{arith}
-use Rattle.record.proofs.Steps.{Steps}
+use Rattle.record.proofs.Steps.{Steps, past-end}
 use Rattle.seam.specs.Walk.{orElse, walk}
 
 module _ (next : ℕ → Option ℕ) (n : ℕ) (steps : Steps next n) where
-  none-by : (at : ℕ) → n ≤ at → (o : Option ℕ) → next at ≡ o → next at ≡ none
-  none-by at h none e = e
-  none-by at h (some m) e = absurd (omega (arith, steps .grows at m e, steps .inside at m e))
-
-  -- no record begins at or past the end
-  pub past-end : (at : ℕ) → n ≤ at → next at ≡ none
-  past-end at h = none-by at h (next at) refl
-
   -- what holds where no record is, and of each record where it holds after it, holds everywhere
   module _ (P : ℕ → Type 0) (stop : (at : ℕ) → next at ≡ none → P at) (step : (at m : ℕ) → next at ≡ some m → P m → P at) where
     records-at : (at : ℕ) → ((m : ℕ) → at + 15 ≤ m → P m) → (o : Option ℕ) → next at ≡ o → P at
@@ -22,7 +14,7 @@ module _ (next : ℕ → Option ℕ) (n : ℕ) (steps : Steps next n) where
     records-at at ih (some m) e = step at m e (ih m (steps .grows at m e))
 
     records-by : (t at : ℕ) → n ≤ t + at → P at
-    records-by zero at h = stop at (past-end at (omega arith))
+    records-by zero at h = stop at (past-end next n steps at (omega arith))
     records-by (suc t) at h = records-at at (λ m g. records-by t m (omega arith)) (next at) refl
 
     pub by-records : (at : ℕ) → P at
@@ -42,8 +34,8 @@ module _ (next : ℕ → Option ℕ) (n : ℕ) (steps : Steps next n) where
     -- more turns change nothing
     pub enough : (t u at : ℕ) → n ≤ t + at → n ≤ u + at → walk next end each t at ≡ walk next end each u at
     unfolding walk
-    enough zero u at h k = sym (stopped u at (past-end at (omega arith)))
-    enough (suc t) zero at h k = stopped (suc t) at (past-end at (omega arith))
+    enough zero u at h k = sym (stopped u at (past-end next n steps at (omega arith)))
+    enough (suc t) zero at h k = stopped (suc t) at (past-end next n steps at (omega arith))
     enough (suc t) (suc u) at h k = enough-by t u at (λ m g. enough t u m (omega arith) (omega arith)) (next at) refl
 
     -- one record, and the walk from the next

@@ -54,12 +54,15 @@ pub fn seam_check(kinds: &[u8; 256], s: &[u8], place: usize) -> Seam
     }
     let mut at = place;
     let mut records = 0;
-    while at < s.len() {
+    loop {
         let Record::Valid { header } = record::read_record(kinds, s, at) else {
-            return Seam::Broken { place: at, records };
+            // No record begins here: the trace has ended, or is broken.
+            if at < s.len() {
+                return Seam::Broken { place: at, records };
+            }
+            return Seam::Unbroken { records };
         };
         at = header.next_offset;
         records += 1;
     }
-    Seam::Unbroken { records }
 }

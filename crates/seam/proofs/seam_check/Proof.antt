@@ -44,32 +44,32 @@ returns-3 c =
     let a = c .before .before .before .before .before .before .before .args in let l = c .before .before .before .loop in let kinds = a .kinds .now in let s = a .s .now in let next = nextAt plausible kinds s in let steps = record-steps plausible kinds s in
     let fits : length s ≤ traceLimit = c .before .before .before .before .before .if1 .left in let inside = c .before .before .before .before .if2 .left in
     broken next (length s) (a .place) fits steps inside (l .at) (l .records) (l .inv .2)
-    (next-none plausible kinds s (l .at) _ (c .before .read-record .ensures) fits (not-valid (c .before .read-record .result) (c .match .keys2))) (omega arith)
+    (next-none plausible kinds s (l .at) _ (c .before .before .read-record .ensures) fits (not-valid (c .before .before .read-record .result) (c .before .match .keys2))) (c .if3 .taken)
+
+returns-4 : tie.Need-returns-4 Inv-loop μ-loop
+returns-4 c =
+    let a = c .before .before .before .before .before .before .before .args in let l = c .before .before .before .loop in let kinds = a .kinds .now in let s = a .s .now in let next = nextAt plausible kinds s in let steps = record-steps plausible kinds s in
+    let fits : length s ≤ traceLimit = c .before .before .before .before .before .if1 .left in let inside = c .before .before .before .before .if2 .left in
+    unbroken next (length s) (a .place) fits steps inside (l .at) (l .records) (l .inv .2) (omega (arith, c .if3 .left, l .inv .0))
 
 add-records : tie.Need-add-records Inv-loop μ-loop
 add-records c = search needs
 
 loop-less : tie.Need-loop-less Inv-loop μ-loop
 loop-less c =
-    let a = c .before .before .before .before .before .before .before .before .before .args in let l = c .before .before .before .before .before .loop in let kinds = a .kinds .now in let s = a .s .now in let next = nextAt plausible kinds s in let steps = record-steps plausible kinds s in
-    let fits : length s ≤ traceLimit = c .before .before .before .before .before .before .before .if1 .left in let inside = c .before .before .before .before .before .before .if2 .left in
+    let a = c .before .before .before .before .before .before .before .before .args in let l = c .before .before .before .before .loop in let kinds = a .kinds .now in let s = a .s .now in let next = nextAt plausible kinds s in let steps = record-steps plausible kinds s in
+    let fits : length s ≤ traceLimit = c .before .before .before .before .before .before .if1 .left in let inside = c .before .before .before .before .before .if2 .left in
     let e = next-one plausible kinds s (l .at) (toldRecord (Valid (c .before .header .given .0 .0))) (ap toldRecord (sym (c .before .header .given .1)) ∙ c .before .before .before .read-record .ensures) refl in
     let on = steps .grows (l .at) _ e in let in-trace = steps .inside (l .at) _ e in
     omega arith
 
 loop-again : tie.Need-loop-again Inv-loop μ-loop
 loop-again c =
-    let a = c .before .before .before .before .before .before .before .before .before .args in let l = c .before .before .before .before .before .loop in let kinds = a .kinds .now in let s = a .s .now in let next = nextAt plausible kinds s in let steps = record-steps plausible kinds s in
-    let fits : length s ≤ traceLimit = c .before .before .before .before .before .before .before .if1 .left in let inside = c .before .before .before .before .before .before .if2 .left in
+    let a = c .before .before .before .before .before .before .before .before .args in let l = c .before .before .before .before .loop in let kinds = a .kinds .now in let s = a .s .now in let next = nextAt plausible kinds s in let steps = record-steps plausible kinds s in
+    let fits : length s ≤ traceLimit = c .before .before .before .before .before .before .if1 .left in let inside = c .before .before .before .before .before .if2 .left in
     let e = next-one plausible kinds s (l .at) (toldRecord (Valid (c .before .header .given .0 .0))) (ap toldRecord (sym (c .before .header .given .1)) ∙ c .before .before .before .read-record .ensures) refl in
     let on = steps .grows (l .at) _ e in let in-trace = steps .inside (l .at) _ e in
     (in-trace, omega arith, one-more next (length s) (a .place) fits steps inside (l .at) (l .records) (l .inv .2) _ e)
-
-returns-4 : tie.Need-returns-4 Inv-loop μ-loop
-returns-4 c =
-    let a = c .before .before .before .before .before .args in let l = c .before .loop in let kinds = a .kinds .now in let s = a .s .now in let next = nextAt plausible kinds s in let steps = record-steps plausible kinds s in
-    let fits : length s ≤ traceLimit = c .before .before .before .if1 .left in let inside = c .before .before .if2 .left in
-    unbroken next (length s) (a .place) fits steps inside (l .at) (l .records) (l .inv .2) (omega arith)
 
 pub seam-check-spec : {M : Type 1} → statement M
 seam-check-spec =
@@ -83,7 +83,7 @@ seam-check-spec =
     read-record-requires
     enum-known-header
     returns-3
+    returns-4
     add-records
     loop-less
-    loop-again
-    returns-4)
+    loop-again)

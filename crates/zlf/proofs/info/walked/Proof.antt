@@ -15,7 +15,7 @@ use Rattle.rows.specs.Rows.{rowsAt}
 use Rattle.paging.proofs.Counting.{rows-length, rows-most}
 use Rattle.steps.proofs.Headers.{header, frames, payload-length}
 use Rattle.seam.proofs.Seams.{broken, unbroken}
-use Rattle.seam.proofs.Walks.{past-end}
+use Rattle.record.proofs.Steps.{past-end}
 use Rattle.seam.specs.Seam.{toldSeam}
 use Rattle.zlf.proofs.Passing.{Passed, none-passed, one-more}
 use Rattle.zlf.proofs.Sums.{Sums, none-counted, complete, counted, added, kind-below, zeros, first-inside}
