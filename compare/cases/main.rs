@@ -6,6 +6,7 @@ mod leaves;
 mod pages;
 mod pti;
 mod random;
+mod searches;
 mod seeks;
 mod traces;
 mod zniffer;
@@ -45,6 +46,9 @@ const SETS: &[Set] = &[
     Set { name: "traces", text: "records, searches and sequential reads on traces, and on damaged copies of them", most: 200, write: traces::traces },
     Set { name: "traces-edges", text: "every limit of the record test, of openings and of the sequential reader", most: 1_000, write: traces::edges },
     Set { name: "traces-large", text: "a record of the largest length, and searches over it", most: 1_000, write: traces::large },
+    Set { name: "searches", text: "a boundary and a window's end at every distance of 0 to 100 offsets, after bytes of every sort", most: 1_000, write: searches::edges },
+    Set { name: "searches-ends", text: "the trace's end at every such distance", most: 1_000, write: searches::ends_of_traces },
+    Set { name: "searches-near", text: "false candidates at every such distance before a boundary, alone and in pairs", most: 1_000, write: searches::candidates },
     Set { name: "pages", text: "pages, chains of pages, seam checks and openings on traces, and on damaged copies of them", most: 250, write: pages::pages },
     Set { name: "pages-example", text: "the same from every offset of 01's example", most: 1_000, write: pages::example },
     Set { name: "pages-full", text: "pages of 599, 600, 601 and no rows, for a table of 600", most: 1_000, write: pages::full },
