@@ -158,6 +158,11 @@ pub fn repeated(what: &str, size: usize) -> Vec<u8> {
         "first" => one(10, 0x00, end(1)),
         "chain" => [one(10, 0x5B, end(1)), one(10, 0x5B, end(1)), one(10, 0x5B, end(0))].concat(),
         "records" => one(10, 0x5B, end(1)),
+        // every second offset may begin a record, by the two bytes that a search looks at first; with 9 its ticks pass, and most lengths
+        "eights" => vec![8, 8, 8, 8, 8, 0, 0, 0, 0, 0],
+        "nines" => vec![9, 9, 9, 9, 9, 0, 0, 0, 0, 0],
+        "eight in turn" => vec![0, 8],
+        "nine in turn" => vec![0, 9],
         _ => {
             let mut noise = Noise(1);
             (0..size).map(|_| noise.byte()).collect()
