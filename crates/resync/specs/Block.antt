@@ -21,3 +21,7 @@ mayBegin ticks size = mayTicks ticks && eqb size 0
 -- whatever the kinds, no valid record begins from one offset on and below another
 abbrev pub noneValid : List ℕ → ℕ → ℕ → Type 0
 noneValid s from to = (kinds : List ℕ) (k : ℕ) → from ≤ k → k < to → valid plausible kinds s k ≡ false
+
+-- an offset from `start` on and `limit` at most: no valid record begins at those passed over
+abbrev pub passedTo : List ℕ → ℕ → ℕ → ℕ → Type 0
+passedTo s start limit offset = (start ≤ offset) × ((offset ≤ limit) × noneValid s start offset)

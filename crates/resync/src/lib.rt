@@ -12,7 +12,7 @@ ghost use lib.ListN.{length};
 ghost use Rattle.layout.specs.Layout.{traceLimit};
 ghost use Rattle.record.specs.Record.{plausible, nextAt};
 ghost use Rattle.resync.specs.Boundary.{boundary, boundaryAt, toldBoundary};
-ghost use Rattle.resync.specs.Block.{block, mayBegin, noneValid};
+ghost use Rattle.resync.specs.Block.{block, mayBegin, noneValid, passedTo};
 ghost use Rattle.resync.specs.Search.{First, startOf, searchFrom, toldSearch, timeAt, toldTime};
 
 // Consecutive records that must be valid before an offset is accepted.
@@ -135,7 +135,7 @@ fn passed_over(s: &[u8], at: usize) -> usize
 // The first candidate from `start` on, as far as whole blocks tell. Nearly all offsets of a search are passed over here.
 fn block_candidate(s: &[u8], start: usize, limit: usize) -> usize
     requires { ⌜ (start ≤ limit) × (limit ≤ length (now s)) ⌝ }
-    ensures { λ r. ⌜ (start ≤ r) × ((r ≤ limit) × noneValid (now (s .entry)) start r) ⌝ }
+    ensures { λ r. ⌜ passedTo (now (s .entry)) start limit r ⌝ }
 {
     let mut at = start;
     while BLOCK + LENGTH_HIGH <= limit - at {
@@ -151,7 +151,7 @@ fn block_candidate(s: &[u8], start: usize, limit: usize) -> usize
 // The first candidate of the NEAR offsets from `start` on, or the offset after them; one at a time. With fewer left, `start`.
 fn near_candidate(s: &[u8], start: usize, limit: usize) -> usize
     requires { ⌜ (start ≤ limit) × (limit ≤ length (now s)) ⌝ }
-    ensures { λ r. ⌜ (start ≤ r) × ((r ≤ limit) × noneValid (now (s .entry)) start r) ⌝ }
+    ensures { λ r. ⌜ passedTo (now (s .entry)) start limit r ⌝ }
 {
     if limit - start < NEAR + LENGTH_HIGH {
         return start;
@@ -168,7 +168,7 @@ fn near_candidate(s: &[u8], start: usize, limit: usize) -> usize
 // are likely to follow, and one offset at a time is cheaper.
 fn candidate(s: &[u8], start: usize, limit: usize, near: bool) -> usize
     requires { ⌜ (start ≤ limit) × (limit ≤ length (now s)) ⌝ }
-    ensures { λ r. ⌜ (start ≤ r) × ((r ≤ limit) × noneValid (now (s .entry)) start r) ⌝ }
+    ensures { λ r. ⌜ passedTo (now (s .entry)) start limit r ⌝ }
 {
     if near {
         near_candidate(s, start, limit)

@@ -1,14 +1,14 @@
 -- `resync::block_candidate` meets its contract. The loop's invariant: none of the offsets passed begins a valid record. Assumes nothing.
-use Prim.Native.Nat.{_≤_, _-_}
+use Prim.Native.Nat.{_-_}
 use borrow.Author.Needs.{needs}
 use native.Mathlib.Omega.{arith}
 use Rattle.resync.proofs.First.{both-ranges}
-use Rattle.resync.specs.Block.{noneValid}
+use Rattle.resync.specs.Block.{passedTo}
 use Rattle.resync.proofs.block_candidate.Statement.{statement}
 use Rattle.resync.proofs.block_candidate.Tie as tie
 
 abbrev Inv-loop : tie.InvT-loop
-Inv-loop s start limit at₀ at = (start ≤ at) × ((at ≤ limit) × noneValid s start at)
+Inv-loop s start limit at₀ at = passedTo s start limit at
 
 abbrev μ-loop : tie.MeasureT-loop
 μ-loop s start limit at₀ at = limit - at
