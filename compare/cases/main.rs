@@ -8,6 +8,7 @@ mod pti;
 mod random;
 mod searches;
 mod seeks;
+mod sums;
 mod traces;
 mod zniffer;
 
@@ -49,6 +50,8 @@ const SETS: &[Set] = &[
     Set { name: "searches", text: "a boundary and a window's end at every distance of 0 to 100 offsets, after bytes of every sort", most: 1_000, write: searches::edges },
     Set { name: "searches-ends", text: "the trace's end at every such distance", most: 1_000, write: searches::ends_of_traces },
     Set { name: "searches-near", text: "false candidates at every such distance before a boundary, alone and in pairs", most: 1_000, write: searches::candidates },
+    Set { name: "sums", text: "header sums of every length up to 4,096, from every place of a word, of single bits, and random ones", most: 20_000, write: sums::sums },
+    Set { name: "sums-headers", text: "openings in sequence of headers with any one bit changed", most: 1_000, write: sums::headers },
     Set { name: "pages", text: "pages, chains of pages, seam checks and openings on traces, and on damaged copies of them", most: 250, write: pages::pages },
     Set { name: "pages-example", text: "the same from every offset of 01's example", most: 1_000, write: pages::example },
     Set { name: "pages-full", text: "pages of 599, 600, 601 and no rows, for a table of 600", most: 1_000, write: pages::full },

@@ -248,14 +248,6 @@ pub fn edges(cases: &mut Cases, r: &mut Random, most: usize) {
         ask(cases, b'n', &[0, 1 << 20]);
         ask(cases, b'Q', &[0]);
     }
-    // the header sum: the catalogue's check, no bytes, each single byte, longer ones
-    cases.block(b'g', b"123456789");
-    cases.block(b'g', b"");
-    (0..=255u8).for_each(|b| cases.block(b'g', &[b]));
-    for n in [2, 3, 100, 2045, 2046, 2047] {
-        cases.block(b'g', &r.bytes(n));
-        cases.block(b'g', &vec![0; n]);
-    }
 }
 
 /// A record of the largest length, one too long, and searches over a megabyte of nothing, of near misses and of records.

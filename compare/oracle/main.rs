@@ -335,6 +335,10 @@ fn answer(op: u8, i: &mut Cases, trace: &mut Vec<u8>, out: &mut Vec<u8>) {
             })
         }
         b'g' => crc16::State::<crc16::AUG_CCITT>::calculate(&i.bytes()).to_string(),
+        b'S' => {
+            let (from, to) = (i.u64() as usize, i.u64() as usize);
+            trace.get(from..to).map_or("-".into(), |part| crc16::State::<crc16::AUG_CCITT>::calculate(part).to_string())
+        }
         b'o' => match TraceCursor::new(SliceSource::new(trace), Definitions) {
             Ok(_) => ZLF_VERSION.to_string(),
             Err(_) if trace.len() < HEADER as usize => "R 2".into(),

@@ -155,6 +155,7 @@ fn answer(letter: u8, i: &mut Cases, trace: &[u8], calls: &mut Calls) {
         b'G' => {}
         b'C' => (0..=255u8).for_each(|c| (0..=255u8).for_each(|r| calls.same(zniff_core::pti::speed_for(c, r), zlf::pti::speed_for(c, r)))),
         b'g' => drop(i.bytes()),
+        b'S' => drop((i.u64(), i.u64())),
         b'Q' => drop(i.u64()),
         other => panic!("no case {other} at {}", i.at - 1),
     }

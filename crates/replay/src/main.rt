@@ -44,7 +44,7 @@ fn fixed_length(letter: u8) -> usize
     match letter {
         b'K' => 261,
         b'j' => 26,
-        b'n' | b'f' | b'F' => 17,
+        b'n' | b'f' | b'F' | b'S' => 17,
         b'm' | b'r' | b't' | b'Q' | b'k' | b'h' | b'u' => 9,
         b'P' => 6,
         b'c' => 3,
@@ -93,6 +93,7 @@ fn told(letter: u8, case: &[u8], trace: &[u8]) -> Said {
         b'c' => leaves::speed(case),
         b'b' => bodies::body(case),
         b'g' => sequence::sum(case),
+        b'S' => sequence::part_sum(case, trace),
         b'T' => out::words(0, 1, trace.len() as u64, 0, 0),
         _ => out::words(0, 1, layout::u32_at(case, 1) as u64, 0, 0),
     }

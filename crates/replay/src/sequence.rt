@@ -1,4 +1,4 @@
-// Cases g, q and Q: the header sum, and reading in sequence, from an opening and from any place.
+// Cases g, S, q and Q: the header sum, and reading in sequence, from an opening and from any place.
 use crate::out;
 use crate::out::Said;
 use reader::Next;
@@ -9,6 +9,20 @@ use reader::ZlfRecord;
 // The sum of bytes.
 pub fn sum(case: &[u8]) -> Said {
     let sum = checksum::header_sum(out::bytes_of(case));
+    out::words(0, 1, sum as u64, 0, 0)
+}
+
+// The sum of the trace's bytes from one place to another; nothing where they are not there.
+pub fn part_sum(case: &[u8], trace: &[u8]) -> Said {
+    let from = layout::u64_at(case, 1) as usize;
+    let to = layout::u64_at(case, 9) as usize;
+    if trace.len() < to {
+        return out::words(out::NONE, 0, 0, 0, 0);
+    }
+    if to < from {
+        return out::words(out::NONE, 0, 0, 0, 0);
+    }
+    let sum = checksum::header_sum(&trace[from..to]);
     out::words(0, 1, sum as u64, 0, 0)
 }
 
