@@ -62,6 +62,7 @@ const INPUTS: &[Input] = &[
     input("in sequence, 10 MiB", || traces::of(Kind::Ordinary, 10 * MIB), 0, sequence::rust, sequence::port),
     input("opening, cursor", || traces::of(Kind::Ordinary, MIB), 0, opening::rust, opening::port),
     input("opening, sequence (the sum)", || traces::of(Kind::Ordinary, MIB), 1, opening::rust, opening::port),
+    input("opening, by a table of 256", || traces::of(Kind::Ordinary, MIB), 1, table::rust, opening::port),
     input("span, 100 MiB", || traces::of(Kind::Ordinary, 100 * MIB), 0, span::rust, span::port),
     input("nine seeks, 100 MiB", || traces::of(Kind::Ordinary, 100 * MIB), 0, seek::rust, seek::port),
     input("nine stepped seeks, 100 MiB", || traces::of(Kind::Ordinary, 100 * MIB), 1, seek::rust, seek::port),
@@ -174,6 +175,34 @@ mod opening {
             if in_sequence == 1 { sys::zlf_open_sequence(at, n, ZLF_VERSION).refusal } else { sys::zlf_open(at, n, ZLF_VERSION).refusal }
         };
         [(refusal == 0) as u64, 0, 0]
+    }
+}
+
+/// The same opening with the sum by a table of 256 entries, as a crate for CRCs has it; the port's side is the opening's.
+mod table {
+    use super::*;
+
+    const TABLE: [u16; 256] = table();
+
+    const fn table() -> [u16; 256] {
+        let mut table = [0; 256];
+        let mut byte = 0;
+        while byte < 256 {
+            let (mut sum, mut bit) = ((byte as u16) << 8, 0);
+            while bit < 8 {
+                sum = if sum & 0x8000 != 0 { (sum << 1) ^ 0x1021 } else { sum << 1 };
+                bit += 1;
+            }
+            table[byte] = sum;
+            byte += 1;
+        }
+        table
+    }
+
+    pub fn rust(trace: &[u8], _: u64) -> Answer {
+        let header = &black_box(trace)[..HEADER as usize];
+        let sum = header[..2046].iter().fold(0x1d0f, |sum: u16, byte| (sum << 8) ^ TABLE[((sum >> 8) as u8 ^ byte) as usize]);
+        [(header[2046..] == sum.to_le_bytes() && header[..4] == ZLF_VERSION.to_le_bytes()) as u64, 0, 0]
     }
 }
 
