@@ -70,7 +70,7 @@ struct Narrowed {
 }
 
 // Whether a record's time is earlier than a target: none is earlier than a negative one, and another compares unsigned.
-fn is_earlier(millis: u64, target: i64) -> bool
+pub fn is_earlier(millis: u64, target: i64) -> bool
     ensures { λ r. ⌜ r ≡ ltZ (pos millis) target ⌝ }
 {
     if target < 0 {
