@@ -4,6 +4,7 @@
 //! With no SET, it lists the sets.
 mod leaves;
 mod pages;
+mod plain;
 mod pti;
 mod random;
 mod searches;
@@ -61,6 +62,10 @@ const SETS: &[Set] = &[
     Set { name: "seeks-gaps", text: "the same with gaps larger than the window", most: 300, write: seeks::gaps },
     Set { name: "seeks-large", text: "the same on a trace of nearly 4 MB with all of that", most: 300, write: seeks::large },
     Set { name: "seeks-longest", text: "the same with payloads of the largest length", most: 300, write: seeks::longest },
+    Set { name: "plain", text: "plain, whole and stepped seeks around every record of small traces, on the premises of 02's request 10", most: 3_900, write: plain::small },
+    Set { name: "plain-halved", text: "the same on traces of 300 to 700 KB with records over 65,536 bytes, on which bounds cross", most: 600, write: plain::halved },
+    Set { name: "plain-large", text: "the same on a trace with records larger than the window", most: 1_000, write: plain::large },
+    Set { name: "plain-off", text: "the same where the premises do not hold, each alone and together", most: 1_100, write: plain::off },
 ];
 
 fn sample(cases: &mut Cases, r: &mut Random, most: usize) {

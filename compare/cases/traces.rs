@@ -39,7 +39,7 @@ pub fn ends(kind: u8) -> Vec<u8> {
 }
 
 /// A record of a kind, with a payload as that kind has.
-fn some_record(r: &mut Random, ticks: u64) -> Vec<u8> {
+pub fn some_record(r: &mut Random, ticks: u64) -> Vec<u8> {
     let kind = r.of(&[1, 1, 1, 1, 2, 3, 3, 4]);
     let mut payload = match kind {
         1 | 2 => pti::payload(r),

@@ -4,8 +4,11 @@
 //! It is built with overflow checks. A sum that overflows in the Rust is caught and answered by 01's rule: a search whose start
 //! and window pass 2^64 - 1 is refusal 5, and a seek whose bounds have crossed scans from lo. How often that happened is said on
 //! standard error. Any other panic of the Rust ends the oracle.
+//!
+//! The plain seek is not the Rust's: plain.rs reads it from 02's text, and holds the Rust's seeks against it.
 mod lines;
 mod list;
+mod plain;
 
 use std::io::{Cursor, Read, Result, Write};
 use std::panic::{AssertUnwindSafe, catch_unwind};
@@ -13,6 +16,7 @@ use std::sync::Mutex;
 use std::sync::atomic::{AtomicU64, Ordering};
 
 use lines::{kind, optional, sum};
+use plain::Plain;
 use zniff_core::cursor::{SeekState, SeekStep, TraceCursor};
 use zniff_core::pti;
 use zniff_core::resync::{next_record_at, read_record, record_time_at};
@@ -33,6 +37,7 @@ static OVERFLOWED: AtomicU64 = AtomicU64::new(0);
 static CROSSED: AtomicU64 = AtomicU64::new(0);
 
 /// What a call of the Rust came to: its answer, or the sum that overflowed.
+#[derive(Clone, Copy)]
 enum Came<T> {
     Answer(T),
     SumOverflowed,
@@ -173,6 +178,48 @@ fn driven(c: &mut TraceCursor<Opened<'_>>, target: i64) -> (Option<u64>, u64, u6
     }
 }
 
+/// What the two seeks answer to a time, and in how many of each the bounds crossed.
+#[derive(Clone, Copy)]
+struct Sought {
+    target: i64,
+    whole: Came<Option<u64>>,
+    stepped: (Option<u64>, u64, u64),
+    crossed: [u64; 2],
+}
+
+impl Sought {
+    fn new(trace: &[u8], target: i64) -> Self {
+        let before = CROSSED.load(Ordering::Relaxed);
+        let stepped = driven(&mut cursor(trace), target);
+        let between = CROSSED.load(Ordering::Relaxed);
+        let whole = call(|| cursor(trace).seek_time(target).unwrap());
+        // whoever asks for them adds them to the count
+        let after = CROSSED.swap(before, Ordering::Relaxed);
+        Sought { target, whole, stepped, crossed: [after - between, between - before] }
+    }
+}
+
+/// What is known of the trace that stands. A search through a large payload takes long, so that the cases `k`, `h` and `l` of one time
+/// share what the seeks answered.
+#[derive(Default)]
+struct Known {
+    sought: Option<Sought>,
+    plain: Plain,
+}
+
+impl Known {
+    /// The trace is another one now.
+    fn changed(&mut self) {
+        self.sought = None;
+        self.plain.changed();
+    }
+
+    fn sought(&mut self, trace: &[u8], target: i64) -> Sought {
+        let known = self.sought.filter(|s| s.target == target);
+        *self.sought.insert(known.unwrap_or_else(|| Sought::new(trace, target)))
+    }
+}
+
 fn stepped(c: &mut TraceCursor<Opened<'_>>, target: i64, s: SeekState, halvings: &mut u64) -> SeekStep {
     if let SeekState::Searching { lo, hi } = s {
         if lo > hi {
@@ -254,7 +301,7 @@ fn search(trace: &[u8], from: u64, window: u64) -> String {
     }
 }
 
-fn answer(op: u8, i: &mut Cases, trace: &mut Vec<u8>, out: &mut Vec<u8>) {
+fn answer(op: u8, i: &mut Cases, trace: &mut Vec<u8>, known: &mut Known, out: &mut Vec<u8>) {
     let line = match op {
         b'K' => {
             let (version, table) = (i.u32(), i.take(256).to_vec());
@@ -312,11 +359,13 @@ fn answer(op: u8, i: &mut Cases, trace: &mut Vec<u8>, out: &mut Vec<u8>) {
         b'w' => pieces(&i.bytes()),
         b'T' => {
             *trace = i.bytes();
+            known.changed();
             trace.len().to_string()
         }
         b'P' => {
             let at = i.u32() as usize;
             trace[at] = i.u8();
+            known.changed();
             at.to_string()
         }
         b'r' => {
@@ -380,18 +429,24 @@ fn answer(op: u8, i: &mut Cases, trace: &mut Vec<u8>, out: &mut Vec<u8>) {
         b'k' => {
             let target = i.i64();
             // without a first record the whole seek gives none and no halvings (01); else the stepped one's halvings
-            let (first, steps) = (cursor(trace).first_record().unwrap(), driven(&mut cursor(trace), target));
-            match call(|| cursor(trace).seek_time(target).unwrap()) {
+            let (first, s) = (cursor(trace).first_record().unwrap(), known.sought(trace, target));
+            CROSSED.fetch_add(s.crossed.iter().sum(), Ordering::Relaxed);
+            match s.whole {
                 Came::Answer(x) if first.is_none() => format!("{} 0", optional(x)),
-                Came::Answer(x) => format!("{} {}", optional(x), steps.1),
-                Came::BoundsCrossed => format!("{} {}", optional(steps.0), steps.1),
+                Came::Answer(x) => format!("{} {}", optional(x), s.stepped.1),
+                Came::BoundsCrossed => format!("{} {}", optional(s.stepped.0), s.stepped.1),
                 Came::SumOverflowed => "R 5".into(),
             }
         }
         b'h' => {
-            let target = i.i64();
-            let (x, halvings, steps) = driven(&mut cursor(trace), target);
+            let s = known.sought(trace, i.i64());
+            CROSSED.fetch_add(s.crossed[1], Ordering::Relaxed);
+            let (x, halvings, steps) = s.stepped;
             format!("{} {halvings} {steps}", optional(x))
+        }
+        b'l' => {
+            let s = known.sought(trace, i.i64());
+            known.plain.answer(trace, &s)
         }
         b'j' => {
             let (target, tag, a, b) = (i.i64(), i.u8(), i.u64(), i.u64());
@@ -430,11 +485,11 @@ fn main() {
         return list::inputs(&words[1..], bytes);
     }
     let mut i = Cases { bytes, at: 0 };
-    let (mut trace, mut out, mut cases) = (Vec::new(), Vec::new(), 0u64);
+    let (mut trace, mut known, mut out, mut cases) = (Vec::new(), Known::default(), Vec::new(), 0u64);
     let mut stdout = std::io::stdout().lock();
     while i.at < i.bytes.len() {
         let op = i.u8();
-        let answered = catch_unwind(AssertUnwindSafe(|| answer(op, &mut i, &mut trace, &mut out)));
+        let answered = catch_unwind(AssertUnwindSafe(|| answer(op, &mut i, &mut trace, &mut known, &mut out)));
         if answered.is_err() {
             eprintln!("oracle: case {cases}, {}: {}", op as char, PANIC.lock().unwrap());
             std::process::exit(3);
@@ -447,6 +502,9 @@ fn main() {
     }
     writeln!(out, "end {cases}").unwrap();
     stdout.write_all(&out).unwrap();
+    if let Some(counts) = known.plain.said() {
+        eprintln!("oracle: {counts}");
+    }
     eprintln!(
         "oracle: {cases} cases; by 01's rule, because the Rust's own sum overflows: {} searches, {} crossed bounds",
         OVERFLOWED.load(Ordering::Relaxed),

@@ -45,7 +45,7 @@ fn fixed_length(letter: u8) -> usize
         b'K' => 261,
         b'j' => 26,
         b'n' | b'f' | b'F' | b'S' => 17,
-        b'm' | b'r' | b't' | b'Q' | b'k' | b'h' | b'u' => 9,
+        b'm' | b'r' | b't' | b'Q' | b'k' | b'h' | b'l' | b'u' => 9,
         b'P' => 6,
         b'c' => 3,
         b'C' | b'G' | b'q' | b's' | b'o' => 1,
@@ -82,6 +82,7 @@ fn sought(letter: u8, case: &[u8], trace: &[u8], kinds: &[u8; 256]) -> Said {
         b'k' => seeks::whole(case, trace, kinds),
         b'h' => seeks::steps(case, trace, kinds),
         b'j' => seeks::step(case, trace, kinds),
+        b'l' => seeks::plain(case, trace, kinds),
         _ => told(letter, case, trace),
     }
 }

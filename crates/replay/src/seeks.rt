@@ -1,6 +1,7 @@
-// Cases s, k, h and j: the span, the whole seek, the stepped seek driven to its end, and one step from any state.
+// Cases s, k, h, j and l: the span, the whole seek, the stepped seek driven to its end, one step from any state, and the plain seek.
 use crate::out;
 use crate::out::Said;
+use plain::PlainSeek;
 use seek::Found;
 use seek::SeekStart;
 use seek::SeekState;
@@ -26,6 +27,17 @@ pub fn whole(case: &[u8], trace: &[u8], kinds: &[u8; 256]) -> Said {
         SeekTime::Found { offset, halvings } => out::words(0, 2, offset as u64, halvings as u64, 0),
         SeekTime::Nothing { halvings } => out::words(out::NONE, 1, halvings as u64, 0, 0),
         SeekTime::TraceTooLong => out::refused(1),
+    }
+}
+
+// The plain seek.
+pub fn plain(case: &[u8], trace: &[u8], kinds: &[u8; 256]) -> Said {
+    let target = out::signed(layout::u64_at(case, 1));
+    let s = plain::plain_seek(kinds, trace, target);
+    match s {
+        PlainSeek::Found { offset } => out::words(0, 1, offset as u64, 0, 0),
+        PlainSeek::Nothing => out::words(out::NONE, 0, 0, 0, 0),
+        PlainSeek::TraceTooLong => out::refused(1),
     }
 }
 
