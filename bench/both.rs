@@ -70,6 +70,7 @@ const INPUTS: &[Input] = &[
     input("parser, 1 MiB of commands", || traces::commands(MIB), 0, commands::rust, commands::port),
     input("parser, 1 MiB of noise", || traces::repeated("noise", MIB), 0, parser::rust, parser::port),
     input("seam check, 100 MiB", || traces::of(Kind::Ordinary, 100 * MIB), 0, seam::rust, seam::port),
+    input("plain seek, 100 MiB", || traces::of(Kind::Ordinary, 100 * MIB), 0, plain::rust, plain::port),
 ];
 
 fn found(offset: Option<u64>) -> u64 {
@@ -352,6 +353,32 @@ mod seam {
     pub fn port(trace: &[u8], _: u64) -> Answer {
         let trace = black_box(trace);
         [unsafe { sys::zlf_seam(KINDS.as_ptr(), trace.as_ptr(), trace.len(), HEADER as usize) }.records as u64, 0, 0]
+    }
+}
+
+/// The plain seek for a time near the trace's end; in the Rust, which has none, its record test from record to record, with each time
+/// compared.
+mod plain {
+    use super::*;
+
+    const LATE: i64 = traces::FIRST_MS + 16_000_000;
+
+    pub fn rust(trace: &[u8], _: u64) -> Answer {
+        let mut source = SliceSource::new(black_box(trace));
+        let (mut at, target) = (HEADER, black_box(LATE));
+        while let Some(record) = read_record(&mut source, at).unwrap() {
+            if record.unix_millis() >= target {
+                return [found(Some(at)), 0, 0];
+            }
+            at = record.next_offset();
+        }
+        [found(None), 0, 0]
+    }
+
+    pub fn port(trace: &[u8], _: u64) -> Answer {
+        let (trace, target) = (black_box(trace), black_box(LATE));
+        let a = unsafe { sys::zlf_plain_seek(KINDS.as_ptr(), trace.as_ptr(), trace.len(), target) };
+        [found(a.is_found.then_some(a.offset as u64)), 0, 0]
     }
 }
 

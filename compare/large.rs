@@ -178,6 +178,12 @@ impl Run {
             }
             format!("{} times, at most {most} halvings, bounds crossed in {}", times.len(), calls.crossed)
         });
+        // a plain seek walks the trace, so a few times are enough
+        let walked = &times[..times.len().min(14)];
+        self.compared("plain seeks", |calls| {
+            walked.iter().for_each(|time| sides::plain(calls, trace, *time));
+            format!("{} times", walked.len())
+        });
         let mut places: Vec<u64> = vec![0, HEADER - 1, HEADER, HEADER + 1, LIMIT as u64 - 1, LIMIT as u64, LIMIT as u64 + 1, u64::MAX];
         places.extend((0..PLACES).map(|_| r.below(LIMIT as u64)));
         self.compared("records, searches and times from places", |calls| {
@@ -277,6 +283,7 @@ fn refusals(calls: &mut Calls, trace: &[u8]) -> String {
         is(calls, sys::zlf_search_answer { refusal: 1, is_found: false, offset: 0, judged: 0 }, sys::zlf_search(kinds, at, n, first, LONGEST));
         is(calls, sys::zlf_span_answer { refusal: 1, is_found: false, first: 0, last: 0 }, sys::zlf_span(kinds, at, n));
         is(calls, sys::zlf_seek_answer { refusal: 1, is_found: false, offset: 0, halvings: 0 }, sys::zlf_seek(kinds, at, n, FIRST_MS));
+        is(calls, sys::zlf_plain_answer { refusal: 1, is_found: false, offset: 0 }, sys::zlf_plain_seek(kinds, at, n, FIRST_MS));
         is(calls, sys::zlf_start_answer { refusal: 1, state: none }, sys::zlf_seek_start(kinds, at, n));
         is(calls, step, sys::zlf_seek_step(kinds, at, n, FIRST_MS, begun));
         is(calls, page, sys::zlf_page(kinds, at, n, first, 64, table.as_mut_ptr(), table.len()));

@@ -106,6 +106,13 @@ struct zlf_seek_answer {
     size_t halvings;
 };
 
+/* The plain seek: refusal 1. */
+struct zlf_plain_answer {
+    uint32_t refusal;
+    bool is_found;
+    size_t offset;
+};
+
 /* A state of the stepped seek: searching between lo and hi, or else scanning from at. */
 struct zlf_state {
     bool searching;
@@ -231,6 +238,12 @@ struct zlf_span_answer zlf_span(const uint8_t *kinds, const uint8_t *trace, size
 
 /* The first record at or after a time. */
 struct zlf_seek_answer zlf_seek(const uint8_t *kinds, const uint8_t *trace, size_t len, int64_t time);
+
+/* The first record at or after a time, by a plain walk: from the first record, the one that zlf_search finds from 2,048 with the usual
+ * window, each where the last ended, up to the first place without a valid one. Slow and easy to trust. Where there is a first record, the
+ * trace is unbroken from it, times never decrease, and every boundary from it on is the start of one of those records, it finds what
+ * zlf_seek and the stepped seek find, which is proved (crates/plain). Near damage they can differ. */
+struct zlf_plain_answer zlf_plain_seek(const uint8_t *kinds, const uint8_t *trace, size_t len, int64_t time);
 
 /* Where a stepped seek starts, and one step of it. */
 struct zlf_start_answer zlf_seek_start(const uint8_t *kinds, const uint8_t *trace, size_t len);

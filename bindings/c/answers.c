@@ -12,6 +12,7 @@ _Static_assert(sizeof(struct zlf_opening) == 8, "zlf_opening");
 _Static_assert(sizeof(struct zlf_sequence) == 24, "zlf_sequence");
 _Static_assert(sizeof(struct zlf_next_record) == 72, "zlf_next_record");
 _Static_assert(sizeof(struct zlf_record_answer) == 64, "zlf_record_answer");
+_Static_assert(sizeof(struct zlf_plain_answer) == 16, "zlf_plain_answer");
 _Static_assert(sizeof(struct zlf_row) == 56, "zlf_row");
 _Static_assert(sizeof(struct zlf_parser) == 268, "zlf_parser");
 _Static_assert(sizeof(struct zlf_parsed) == 280, "zlf_parsed");
@@ -106,6 +107,30 @@ static void records(void) {
     IS(t.answer, 3), IS(t.is_found, 1), IS(t.offset, 2086);
 }
 
+static void plain(void) {
+    struct zlf_plain_answer a = zlf_plain_seek(kinds, trace, length, MILLIS + 1);
+    IS(a.refusal, 0), IS(a.is_found, 1), IS(a.offset, 2086);
+    a = zlf_plain_seek(kinds, trace, length, MILLIS + 2);
+    IS(a.refusal, 0), IS(a.is_found, 1), IS(a.offset, 2086);
+    a = zlf_plain_seek(kinds, trace, length, MILLIS + 5);
+    IS(a.refusal, 0), IS(a.is_found, 1), IS(a.offset, 2124);
+    a = zlf_plain_seek(kinds, trace, length, MILLIS + 6);
+    IS(a.refusal, 0), IS(a.is_found, 0), IS(a.offset, 0);
+    /* no record is earlier than a negative time */
+    a = zlf_plain_seek(kinds, trace, length, -1);
+    IS(a.refusal, 0), IS(a.is_found, 1), IS(a.offset, 2048);
+    /* the first record is not at 2,048 */
+    trace[2048 + 7] ^= 8;
+    a = zlf_plain_seek(kinds, trace, length, 0);
+    IS(a.refusal, 0), IS(a.is_found, 1), IS(a.offset, 2086);
+    trace[2048 + 7] ^= 8;
+    /* bytes after the last record: the walk comes to a record that is no boundary, and the whole seek passes it over */
+    a = zlf_plain_seek(kinds, trace, length + 20, MILLIS + 1);
+    IS(a.refusal, 0), IS(a.is_found, 1), IS(a.offset, 2086), IS(zlf_seek(kinds, trace, length + 20, MILLIS + 1).is_found, 0);
+    a = zlf_plain_seek(kinds, trace, length + 20, MILLIS + 6);
+    IS(a.refusal, 0), IS(a.is_found, 0), IS(a.offset, 0);
+}
+
 static void pages(void) {
     struct zlf_row table[5], untouched;
     memset(table, 0xA5, sizeof table);
@@ -170,6 +195,8 @@ static void refused(const uint8_t *bytes, size_t n, int number) {
     IS(zlf_next(kinds, bytes, n, 2048, 0).refusal, number), IS(zlf_record(kinds, bytes, n, 2048).refusal, number);
     IS(zlf_search(kinds, bytes, n, 0, 100).refusal, number), IS(zlf_span(kinds, bytes, n).refusal, number);
     IS(zlf_seek(kinds, bytes, n, 0).refusal, number), IS(zlf_seek_start(kinds, bytes, n).refusal, number);
+    struct zlf_plain_answer plain = zlf_plain_seek(kinds, bytes, n, 0);
+    IS(plain.refusal, number), IS(plain.is_found, 0), IS(plain.offset, 0);
     IS(zlf_seek_step(kinds, bytes, n, 0, scanning).refusal, number), IS(zlf_page(kinds, bytes, n, 2048, 1, 0, 0).refusal, number);
 }
 
@@ -186,6 +213,7 @@ static void bad_calls(void) {
     refused(zeros, limit + 1, 1);
     IS(zlf_open(zeros, limit + 1, 0).refusal, 1), IS(zlf_open_sequence(zeros, limit + 1, 0).refusal, 1), IS(zlf_seam(kinds, zeros, limit + 1, 2048).refusal, 1);
     IS(zlf_open(zeros, limit, 0).refusal, 0), IS(zlf_seam(kinds, zeros, limit, 2048).refusal, 0), IS(zlf_seam(kinds, zeros, limit, 2048).place, 2048);
+    IS(zlf_plain_seek(kinds, zeros, limit, 0).refusal, 0), IS(zlf_plain_seek(kinds, zeros, limit, 0).is_found, 0);
     /* a window past the last offset */
     IS(zlf_search(kinds, trace, length, SIZE_MAX, 1).refusal, 5), IS(zlf_search(kinds, trace, length, SIZE_MAX, 0).refusal, 0);
     IS(zlf_page(kinds, trace, length, SIZE_MAX, 1, 0, 0).refusal, 5);
@@ -205,6 +233,7 @@ int main(void) {
     record(TICKS + 50000, 0, 0xC2, 1, 0);
     openings();
     records();
+    plain();
     pages();
     leaves();
     bad_calls();

@@ -154,6 +154,18 @@ impl<'a> TraceCursor<'a> {
         Ok(a.is_found.then_some(a.offset as u64))
     }
 
+    /// Offset of the first record at or after `time_ms`, by a plain walk: from the first record, each where the last ended, up to the
+    /// first place without a valid one. Slow and easy to trust.
+    ///
+    /// Where there is a first record, the trace is unbroken from it, times never decrease, and every boundary from it on is the start of
+    /// one of those records, it is what [`Self::seek_time`] and the stepped seek find. Near damage they can differ.
+    pub fn plain_seek(&self, time_ms: i64) -> Result<Option<u64>, Refusal> {
+        let Trace { bytes, kinds } = self.trace;
+        let a = unsafe { sys::zlf_plain_seek(kinds.as_ptr(), bytes.as_ptr(), bytes.len(), time_ms) };
+        Refusal::of(a.refusal, 0)?;
+        Ok(a.is_found.then_some(a.offset as u64))
+    }
+
     /// Whether valid records follow one another from a place to the trace's end.
     pub fn seam(&self, place: u64) -> Result<Seam, Refusal> {
         let Trace { bytes, kinds } = self.trace;

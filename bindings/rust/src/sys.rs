@@ -80,6 +80,14 @@ pub struct zlf_seek_answer {
 
 #[repr(C)]
 #[derive(Debug, Clone, Copy, PartialEq, Eq)]
+pub struct zlf_plain_answer {
+    pub refusal: u32,
+    pub is_found: bool,
+    pub offset: usize,
+}
+
+#[repr(C)]
+#[derive(Debug, Clone, Copy, PartialEq, Eq)]
 pub struct zlf_state {
     pub searching: bool,
     pub lo: usize,
@@ -201,6 +209,7 @@ unsafe extern "C" {
     pub fn zlf_search(kinds: *const u8, trace: *const u8, len: usize, from: usize, window: usize) -> zlf_search_answer;
     pub fn zlf_span(kinds: *const u8, trace: *const u8, len: usize) -> zlf_span_answer;
     pub fn zlf_seek(kinds: *const u8, trace: *const u8, len: usize, time: i64) -> zlf_seek_answer;
+    pub fn zlf_plain_seek(kinds: *const u8, trace: *const u8, len: usize, time: i64) -> zlf_plain_answer;
     pub fn zlf_seek_start(kinds: *const u8, trace: *const u8, len: usize) -> zlf_start_answer;
     pub fn zlf_seek_step(kinds: *const u8, trace: *const u8, len: usize, time: i64, state: zlf_state) -> zlf_step_answer;
     pub fn zlf_page(kinds: *const u8, trace: *const u8, len: usize, offset: usize, count: usize, table: *mut zlf_row, room: usize) -> zlf_page_answer;

@@ -139,6 +139,7 @@ fn answer(letter: u8, i: &mut Cases, trace: &[u8], calls: &mut Calls) {
         b'q' => drop(sides::sequence(calls, trace)),
         b's' => drop(sides::span(calls, trace)),
         b'k' | b'h' => drop(sides::seek(calls, trace, i.u64() as i64)),
+        b'l' => sides::plain(calls, trace, i.u64() as i64),
         b'j' => {
             let (target, tag, a, b) = (i.u64() as i64, i.u8(), i.u64(), i.u64());
             let s = if tag == 0 { old::SeekState::Searching { lo: a, hi: b } } else { old::SeekState::Scanning { at: a } };

@@ -1,9 +1,10 @@
 -- A promise determines its answer: two answers that are told as the same record of numbers are equal. Assumes nothing.
 use lib.IntN.{natAbs}
 use mathlib.Core.Path.{_≡_}
-use Rattle.capi_seeks.specs.Seeks.{spanTold, seekTold, stateTold, startTold, stepTold}
+use Rattle.capi_seeks.specs.Seeks.{spanTold, seekTold, plainTold, stateTold, startTold, stepTold}
 use Rattle.capi_seeks.specs.declared.seeks.SpanAnswer.{SpanAnswer}
 use Rattle.capi_seeks.specs.declared.seeks.SeekAnswer.{SeekAnswer}
+use Rattle.capi_seeks.specs.declared.seeks.PlainAnswer.{PlainAnswer}
 use Rattle.capi_seeks.specs.declared.seeks.State.{State}
 use Rattle.capi_seeks.specs.declared.seeks.StartAnswer.{StartAnswer}
 use Rattle.capi_seeks.specs.declared.seeks.StepAnswer.{StepAnswer}
@@ -13,6 +14,9 @@ span-only a b e = λ i. record { refusal = e i .refusal; «is_found» = e i .isF
 
 pub seek-only : (a b : SeekAnswer) → seekTold a ≡ seekTold b → a ≡ b
 seek-only a b e = λ i. record { refusal = e i .refusal; «is_found» = e i .isFound; offset = e i .offset; halvings = e i .halvings }
+
+pub plain-only : (a b : PlainAnswer) → plainTold a ≡ plainTold b → a ≡ b
+plain-only a b e = λ i. record { refusal = e i .refusal; «is_found» = e i .isFound; offset = e i .offset }
 
 pub state-only : (a b : State) → stateTold a ≡ stateTold b → a ≡ b
 state-only a b e = λ i. record { searching = e i .searching; lo = e i .lo; hi = e i .hi; at = e i .at }

@@ -4,10 +4,12 @@ use mathlib.Core.Bool.{cond}
 use Rattle.span.specs.Span.{SpanTold}
 use Rattle.seek.specs.Seek.{SeekTold}
 use Rattle.seek.specs.Step.{StateTold, StartTold, StepTold}
+use Rattle.plain.specs.Plain.{PlainTold}
 use Rattle.seek.specs.declared.SeekState.{SeekState}
 use Rattle.seek.specs.declared.SeekState.the-variants.{Searching, Scanning}
 use Rattle.capi_seeks.specs.declared.seeks.SpanAnswer.{SpanAnswer}
 use Rattle.capi_seeks.specs.declared.seeks.SeekAnswer.{SeekAnswer}
+use Rattle.capi_seeks.specs.declared.seeks.PlainAnswer.{PlainAnswer}
 use Rattle.capi_seeks.specs.declared.seeks.State.{State}
 use Rattle.capi_seeks.specs.declared.seeks.StartAnswer.{StartAnswer}
 use Rattle.capi_seeks.specs.declared.seeks.StepAnswer.{StepAnswer}
@@ -17,6 +19,9 @@ spanTold r = record { refusal = r .refusal; isFound = r .«is_found»; first = p
 
 abbrev pub seekTold : SeekAnswer → SeekTold
 seekTold r = record { refusal = r .refusal; isFound = r .«is_found»; offset = r .offset; halvings = r .halvings }
+
+abbrev pub plainTold : PlainAnswer → PlainTold
+plainTold r = record { refusal = r .refusal; isFound = r .«is_found»; offset = r .offset }
 
 abbrev pub stateTold : State → StateTold
 stateTold s = record { searching = s .searching; lo = s .lo; hi = s .hi; at = s .at }

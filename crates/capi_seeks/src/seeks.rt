@@ -1,4 +1,5 @@
-// The span, the whole seek and the stepped seek.
+// The span, the whole seek, the plain seek and the stepped seek.
+use plain::PlainSeek;
 use seek::Found;
 use seek::SeekStart;
 use seek::SeekState;
@@ -12,7 +13,8 @@ ghost use Rattle.span.specs.Met.{traceOf};
 ghost use Rattle.span.specs.Span.{spanOf, toldSpan};
 ghost use Rattle.seek.specs.Seek.{seekOf, toldSeek, toldFound};
 ghost use Rattle.seek.specs.Step.{toldState, noState, startAt, toldStart, stepAt, toldStep, done};
-ghost use Rattle.capi_seeks.specs.Seeks.{spanTold, seekTold, stateTold, stateOf, startTold, stepTold};
+ghost use Rattle.plain.specs.Plain.{plainOf, toldPlain};
+ghost use Rattle.capi_seeks.specs.Seeks.{spanTold, seekTold, plainTold, stateTold, stateOf, startTold, stepTold};
 
 // The refusal's number or 0, whether there is a span, and the two times in milliseconds, which are after 2000 and so unsigned.
 #[repr(C)]
@@ -30,6 +32,14 @@ pub struct SeekAnswer {
     pub is_found: bool,
     pub offset: usize,
     pub halvings: usize,
+}
+
+// The refusal's number or 0, whether a record was found, and its offset.
+#[repr(C)]
+pub struct PlainAnswer {
+    pub refusal: u32,
+    pub is_found: bool,
+    pub offset: usize,
 }
 
 // A state of the stepped seek: searching between lo and hi, or scanning from a place.
@@ -125,6 +135,37 @@ pub extern "C" fn zlf_seek(kinds: &[u8; 256], trace: &[u8], time: i64) -> SeekAn
 {
     let s = seek::seek_time(kinds, trace, time);
     seek_numbers(s)
+}
+
+fn plain_numbers(s: PlainSeek) -> PlainAnswer
+    ensures { λ r. ⌜ plainTold r ≡ toldPlain s ⌝ }
+{
+    match s {
+        PlainSeek::Found { offset } => PlainAnswer {
+            refusal: 0,
+            is_found: true,
+            offset,
+        },
+        PlainSeek::Nothing => PlainAnswer {
+            refusal: 0,
+            is_found: false,
+            offset: 0,
+        },
+        PlainSeek::TraceTooLong => PlainAnswer {
+            refusal: 1,
+            is_found: false,
+            offset: 0,
+        },
+    }
+}
+
+// The first at or after a time by a walk over the records from the first one, each where the last ended: slow and easy to trust.
+#[no_mangle]
+pub extern "C" fn zlf_plain_seek(kinds: &[u8; 256], trace: &[u8], time: i64) -> PlainAnswer
+    ensures { λ r. ⌜ plainTold r ≡ plainOf (traceOf plausible (now (kinds .entry)) (now (trace .entry))) time ⌝ }
+{
+    let s = plain::plain_seek(kinds, trace, time);
+    plain_numbers(s)
 }
 
 fn state_numbers(s: SeekState) -> State

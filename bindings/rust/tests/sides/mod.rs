@@ -225,6 +225,20 @@ pub fn seek(calls: &mut Calls, trace: &[u8], target: i64) -> Option<usize> {
     Some(halvings)
 }
 
+/// The plain seek, over the Rust's own first record and record test.
+pub fn plain(calls: &mut Calls, trace: &[u8], target: i64) {
+    let Some((mut rust, binding)) = cursors(calls, trace) else { return };
+    let mut at = rust.first_record().unwrap();
+    while let Some(place) = at {
+        let record = zniff_core::resync::read_record(&mut SliceSource::new(trace), place).unwrap();
+        if record.is_some_and(|r| r.unix_millis() >= target) {
+            break;
+        }
+        at = record.map(|r| r.next_offset());
+    }
+    calls.same(Ok(at), binding.plain_seek(target));
+}
+
 /// The span, and the first record; and what the span is.
 pub fn span(calls: &mut Calls, trace: &[u8]) -> Option<(i64, i64)> {
     let (mut rust, binding) = cursors(calls, trace)?;
