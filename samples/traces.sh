@@ -1,4 +1,4 @@
-# Traces and inputs of trace-list, in hexadecimal: sourced by samples/make and tests/trace-list.
+# Traces and inputs of trace-list, in hexadecimal: sourced by samples/make, samples/premises and tests/trace-list.
 
 # a number in so many bytes, low byte first
 low_first() { # BYTES NUMBER
@@ -31,6 +31,9 @@ header() { # VERSION
     low_first 4 "$1"
     times 2044 00
 }
+
+# 2024-05-01 08:30 in UTC, as .NET stores it, and so many milliseconds more
+stored() { echo $(((1 << 62) + 638501490000000000 + $1 * 10000)); }
 
 # ticks, properties, length, payload, end byte
 record() { # TICKS PROPERTIES END PAYLOAD

@@ -1,0 +1,9 @@
+pub mod Parts
+pub mod Blanks
+pub mod Heads
+pub mod Lines
+pub mod Broken
+pub mod Halved
+pub mod Needed
+pub mod Distant
+pub mod Included

@@ -1,0 +1,59 @@
+-- `premises::traces::put_tail` meets its contract: part after part. Assumes nothing.
+use Prim.Native.Nat.{ℕ}
+use mathlib.Core.Path.{ap}
+use borrow.Author.Needs.{needs}
+use Rattle.text.proofs.Puts.{joined, renamed}
+use Rattle.plain_examples.specs.Traces.{blank, tail}
+use Rattle.premises.proofs.traces.put_tail.Statement.{statement}
+use Rattle.premises.proofs.traces.put_tail.Tie as tie
+
+put-header-requires : tie.Need-put-header-requires
+put-header-requires c κs = search needs
+
+second-requires : tie.Need-second-requires
+second-requires c κs = search needs
+
+put-blank-requires : tie.Need-put-blank-requires
+put-blank-requires c κs = search needs
+
+second-requires-2 : tie.Need-second-requires-2
+second-requires-2 c κs = search needs
+
+put-blank-requires-2 : tie.Need-put-blank-requires-2
+put-blank-requires-2 c κs = search needs
+
+second-requires-3 : tie.Need-second-requires-3
+second-requires-3 c κs = search needs
+
+put-blank-requires-3 : tie.Need-put-blank-requires-3
+put-blank-requires-3 c κs = search needs
+
+put-byte-requires : tie.Need-put-byte-requires
+put-byte-requires c κs = search needs
+
+same-length : tie.Need-same-length
+same-length c = search needs
+
+returns : tie.Need-returns
+unfolding tail
+returns c =
+    joined (c .before .before .before .before .before .before .before .before .before .before .before .before .before .before .before .before .before .before .before .before .before .put-header .ensures)
+    (joined (renamed (ap (λ (t : ℕ). blank t 1) (c .before .before .before .before .before .before .before .before .before .before .before .before .before .before .before .before .before .second .ensures)) (c .before .before .before .before .before .before .before .before .before .before .before .before .before .before .before .before .put-blank .ensures))
+    (joined (renamed (ap (λ (t : ℕ). blank t 1) (c .before .before .before .before .before .before .before .before .before .before .before .before .second2 .ensures)) (c .before .before .before .before .before .before .before .before .before .before .before .put-blank2 .ensures))
+    (joined (renamed (ap (λ (t : ℕ). blank t 1) (c .before .before .before .before .before .before .before .second3 .ensures)) (c .before .before .before .before .before .before .put-blank3 .ensures))
+    (c .before .before .put-byte .ensures))))
+
+pub put-tail-spec : {M : Type 1} → statement M
+put-tail-spec =
+    tie.close
+    (tie.spec
+    put-header-requires
+    second-requires
+    put-blank-requires
+    second-requires-2
+    put-blank-requires-2
+    second-requires-3
+    put-blank-requires-3
+    put-byte-requires
+    same-length
+    returns)

@@ -1,0 +1,53 @@
+-- `premises::traces::put_zeros` meets its contract: at each turn the rest of the zeros is left to be put. Assumes nothing.
+use borrow.Author.Needs.{needs}
+use lib.ListN.{length}
+use mathlib.Core.Path.{_≡_, refl}
+use native.Mathlib.Omega.{arith}
+use Rattle.text.proofs.Puts.{Left, all-left, less-left, none-left}
+use Rattle.plain_examples.specs.Traces.{zeros}
+use Rattle.premises.proofs.Turns.{one-zero, no-zeros}
+use Rattle.premises.proofs.traces.put_zeros.Statement.{statement}
+use Rattle.premises.proofs.traces.put_zeros.Tie as tie
+
+abbrev Inv-loop : tie.InvT-loop
+Inv-loop out₀ at n next₀ left₀ out next left = (length out ≡ length out₀) × Left (zeros n) out₀ at (zeros left) out next
+
+abbrev μ-loop : tie.MeasureT-loop
+μ-loop out₀ at n next₀ left₀ out next left = left
+
+loop-holds : tie.Need-loop-holds Inv-loop μ-loop
+loop-holds c = (refl, all-left _ _ _)
+
+put-byte-requires : tie.Need-put-byte-requires Inv-loop μ-loop
+put-byte-requires c κs = search needs
+
+sub-left : tie.Need-sub-left Inv-loop μ-loop
+sub-left c = search needs
+
+loop-less : tie.Need-loop-less Inv-loop μ-loop
+loop-less c = search needs
+
+loop-again : tie.Need-loop-again Inv-loop μ-loop
+loop-again c =
+    let loop = c .before .before .before .before .before .loop in
+    (search needs, less-left (loop .inv .1) (one-zero (loop .left) (omega arith)) (c .before .before .put-byte .ensures))
+
+same-length : tie.Need-same-length Inv-loop μ-loop
+same-length c = search needs
+
+returns : tie.Need-returns Inv-loop μ-loop
+returns c = none-left (c .before .loop .inv .1) (no-zeros _ (omega arith))
+
+pub put-zeros-spec : {M : Type 1} → statement M
+put-zeros-spec =
+    tie.close
+    (tie.spec
+    Inv-loop
+    μ-loop
+    loop-holds
+    put-byte-requires
+    sub-left
+    loop-less
+    loop-again
+    same-length
+    returns)
