@@ -25,6 +25,11 @@ module _ (next : ℕ → Option ℕ) (n : ℕ) (steps : Steps next n) where
   leads-on ends = omega arith
   leads-on (more {at} {m} {k} e u) = omega (arith, steps .grows at m e, leads-on u)
 
+  -- and stay inside
+  pub stays-inside : {at to k : ℕ} → Unbroken next to at k → at ≤ n → to ≤ n
+  stays-inside ends h = h
+  stays-inside (more {at} {m} {k} e u) h = stays-inside u (steps .inside at m e)
+
   -- one record more at the end
   pub one-after : {at to k end : ℕ} → Unbroken next to at k → next to ≡ some end → Unbroken next end at (suc k)
   one-after ends f = more f ends

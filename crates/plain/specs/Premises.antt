@@ -33,20 +33,32 @@ pub record Premises (t : Trace) : Type 0 where
   pub in-order : NeverDecrease t (firstMet t .offset)
   pub no-other : NoOtherBoundary t (firstMet t .offset)
 
--- In place of "milliseconds never decrease", for the one time that is sought: of two of those records, one where the other ends, the former
--- is earlier than the target where the latter is. A clock that went back before the target, or after it, does no harm
+-- Weaker premises, of the one time that is sought. In place of "milliseconds never decrease": of two of those records, one where the other ends, the
+-- former is earlier than the target where the latter is. A clock that went back before the target, or after it, does no harm
 abbrev pub Parted : Trace → ℤ → ℕ → Type 0
 Parted t target first =
     (at after : ℕ) → Begins t first at → t .next at ≡ some after → Begins t first after
     → ltZ (t .millis after) target ≡ true → ltZ (t .millis at) target ≡ true
+
+-- In place of "every boundary": every boundary that is earlier than the target. What looks like later records in a payload does no harm
+abbrev pub NoEarlierBoundary : Trace → ℤ → ℕ → Type 0
+NoEarlierBoundary t target first =
+    (at : ℕ) → first ≤ at → boundary (t .next) (t .size) at ≡ true → ltZ (t .millis at) target ≡ true → Begins t first at
+
+-- these are enough (`same-enough` of proofs/Same.antt)
+pub record Enough (t : Trace) (target : ℤ) : Type 0 where
+  pub has-first : HasFirst t
+  pub unbroken : UnbrokenFrom t (firstMet t .offset)
+  pub parted : Parted t target (firstMet t .offset)
+  pub no-earlier : NoEarlierBoundary t target (firstMet t .offset)
 
 -- In place of "the trace is unbroken from it": the record that the plain seek finds, if it finds one, is a boundary. Of the records before a
 -- break only the last two are none (`three` and `breaks-off` of resync/proofs/Chain.antt)
 abbrev pub AnswerIsBoundary : Trace → ℤ → ℕ → Type 0
 AnswerIsBoundary t target first = (at : ℕ) → plainFrom t target first ≡ some at → boundary (t .next) (t .size) at ≡ true
 
--- the weaker premises, but for the last, which is then the same as that the seeks agree (`exactly` of proofs/Same.antt)
-pub record Weaker (t : Trace) (target : ℤ) : Type 0 where
+-- with the others, it is the same as that the seeks agree (`exactly` of proofs/Same.antt)
+pub record ButUnbroken (t : Trace) (target : ℤ) : Type 0 where
   pub has-first : HasFirst t
   pub parted : Parted t target (firstMet t .offset)
   pub no-other : NoOtherBoundary t (firstMet t .offset)
