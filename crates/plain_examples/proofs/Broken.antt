@@ -5,7 +5,7 @@ use borrow.Author.Tests.{le-ltb}
 use lib.IntN.{ℤ}
 use lib.Signed.{ltZ}
 use mathlib.Core.Bool.{Bool, true, false, true≢false}
-use mathlib.Core.List.{[], _∷_}
+use mathlib.Core.List.{[], _∷_, List·Memᴰ}
 use mathlib.Core.Option.{Option, none, some}
 use mathlib.Core.Path.{_≡_, refl, sym, ap, subst, _∙_}
 use native.Mathlib.Omega.{arith}
@@ -22,7 +22,6 @@ use Rattle.plain.proofs.Chain.{met-here, plain-passes, plain-found}
 use Rattle.plain.specs.Plain.{plainFrom, plainTold, plainOf}
 use Rattle.plain.specs.Premises.{HasFirst, NeverDecrease, NoOtherBoundary}
 use Rattle.plain_examples.specs.Differ.{Differ}
-use Rattle.plain_examples.proofs.Parts.{Among}
 use Rattle.plain_examples.proofs.Lines.{of-three, Line, end, then, Rising, no-record-at, no-others, in-order}
 
 -- the answers, by what the walks answer
@@ -43,7 +42,7 @@ differ-by t target place halvings fits is first p b bracket-is h w =
 module _
     (t : Trace) (steps : Steps (t .next) (t .size)) (n-is : t .size ≡ 2094) (target : ℤ)
     (one : t .next 2048 ≡ some 2063) (two : t .next 2063 ≡ some 2078) (three-is : t .next 2078 ≡ some 2093)
-    (only : (at m : ℕ) → t .next at ≡ some m → Among at (2048 ∷ 2063 ∷ 2078 ∷ []))
+    (only : (at m : ℕ) → t .next at ≡ some m → List·Memᴰ at (2048 ∷ 2063 ∷ 2078 ∷ []))
     (early : ltZ (t .millis 2048) target ≡ true) (late : ltZ (t .millis 2063) target ≡ false) where
   abbrev next : ℕ → Option ℕ
   next = t .next

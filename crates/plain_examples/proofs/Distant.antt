@@ -6,7 +6,7 @@ use lib.IntN.{ℤ, pos}
 use lib.ListN.{length}
 use lib.Signed.{ltZ, leZ-yes}
 use mathlib.Core.Bool.{Bool, true, false}
-use mathlib.Core.List.{List, [], _∷_, _++_, append-nil}
+use mathlib.Core.List.{List, [], _∷_, _++_, append-nil, List·Memᴰ, List·Memᴰ·not-nil, List·Memᴰ·cases-cons}
 use mathlib.Core.Logic.{⊎-elim}
 use mathlib.Core.Option.{Option, some}
 use mathlib.Core.Path.{_≡_, refl, sym, ap, subst, _∙_}
@@ -33,7 +33,7 @@ use Rattle.plain.specs.Plain.{plainOf}
 use Rattle.plain.specs.Premises.{UnbrokenFrom, NeverDecrease, NoOtherBoundary}
 use Rattle.plain_examples.specs.Traces.{zeros, header, second, millisecond, blank, distant}
 use Rattle.plain_examples.specs.Differ.{OnlyStepped}
-use Rattle.plain_examples.proofs.Parts.{From, behind, marks, marks-zeros, Bytes, bytes-zeros, bytes-append, Among, split}
+use Rattle.plain_examples.proofs.Parts.{From, behind, marks, marks-zeros, Bytes, bytes-zeros, bytes-append}
 use Rattle.plain_examples.proofs.Blanks.{length-zeros, from-header, marks-header, bytes-header, blank-there, behind-blank, marks-blank, bytes-blank, ended, size-of}
 use Rattle.plain_examples.proofs.Heads.{small-0, small-1}
 use Rattle.plain_examples.proofs.Lines.{sevens, Line, end, then, leads, last, step, no-record-at, no-others, in-order}
@@ -44,7 +44,7 @@ places = 1050624 ∷ 1050639 ∷ []
 
 module _
     (t : Trace) (steps : Steps (t .next) (t .size)) (n-is : t .size ≡ 1050654) (target : ℤ)
-    (one : t .next 1050624 ≡ some 1050639) (two : t .next 1050639 ≡ some 1050654) (only : (at m : ℕ) → t .next at ≡ some m → Among at places)
+    (one : t .next 1050624 ≡ some 1050639) (two : t .next 1050639 ≡ some 1050654) (only : (at m : ℕ) → t .next at ≡ some m → List·Memᴰ at places)
     (early : ltZ (t .millis 1050624) target ≡ true) (late : ltZ (t .millis 1050639) target ≡ false) where
   abbrev n : ℕ
   n = t .size
@@ -64,8 +64,8 @@ module _
   -- both boundaries lie past the first window
   pub far : (at : ℕ) → boundary (t .next) n at ≡ true → 1050624 ≤ at
   far at is =
-      ⊎-elim (λ (e : at ≡ 1050624). omega arith) (λ b. ⊎-elim (λ (e : at ≡ 1050639). omega arith) (λ c. absurd (split c)) (split b))
-      (split (only at (boundary-record (t .next) n at is .0) (boundary-record (t .next) n at is .1)))
+      ⊎-elim (λ (e : at ≡ 1050624). omega arith) (λ b. ⊎-elim (λ (e : at ≡ 1050639). omega arith) (λ c. absurd (List·Memᴰ·not-nil c)) (List·Memᴰ·cases-cons b))
+      (List·Memᴰ·cases-cons (only at (boundary-record (t .next) n at is .0) (boundary-record (t .next) n at is .1)))
 
   near-by : (at : ℕ) → at < 1050624 → (b : Bool) → boundary (t .next) n at ≡ b → boundary (t .next) n at ≡ false
   near-by at h false e = e
@@ -159,7 +159,7 @@ module _ (kinds : List ℕ) (known : kindOf kinds 0xFE ≡ 3) where
       let steps : Steps (t .next) (t .size) = record-steps plausible kinds distant in
       let a : _ = blank-there kinds known small-0 (blank (second 1) 1) from-0 in
       let b : _ = blank-there kinds known small-1 [] from-1 in
-      let only : (at m : ℕ) → t .next at ≡ some m → Among at places = only-at kinds distant places bytes marks-are in
+      let only : (at m : ℕ) → t .next at ≡ some m → List·Memᴰ at places = only-at kinds distant places bytes marks-are in
       let early : ltZ (t .millis 1050624) (pos (millisecond 1)) ≡ true = ap (λ z. ltZ z (pos (millisecond 1))) (a .1) in
       let late : ltZ (t .millis 1050639) (pos (millisecond 1)) ≡ false = ap (λ z. ltZ z (pos (millisecond 1))) (b .1) in
       let records : Line t 1050624 places 1050654 = then (a .0) (then (b .0) end) in (

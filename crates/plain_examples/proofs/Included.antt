@@ -4,7 +4,7 @@ use lib.IntN.{ℤ, pos}
 use lib.ListN.{length}
 use lib.Signed.{ltZ, leZ-yes}
 use mathlib.Core.Bool.{Bool, true, false}
-use mathlib.Core.List.{List, [], _∷_, _++_, append-nil}
+use mathlib.Core.List.{List, [], _∷_, _++_, append-nil, List·Memᴰ}
 use mathlib.Core.Option.{some}
 use mathlib.Core.Path.{_≡_, refl, sym, ap, subst, _∙_}
 use native.Mathlib.Omega.{arith}
@@ -24,7 +24,7 @@ use Rattle.span.specs.Met.{Trace, MetTold, traceOf, meet, firstMet}
 use Rattle.plain.proofs.Chain.{met-next, met-here}
 use Rattle.plain.specs.Premises.{Premises, NeverDecrease, NoOtherBoundary}
 use Rattle.plain_examples.specs.Traces.{header, second, millisecond, blank, large}
-use Rattle.plain_examples.proofs.Parts.{From, marks, Bytes, bytes-append, Among}
+use Rattle.plain_examples.proofs.Parts.{From, marks, Bytes, bytes-append}
 use Rattle.plain_examples.proofs.Blanks.{from-header, marks-header, bytes-header, blank-there, behind-blank, marks-blank, bytes-blank, ended, size-of}
 use Rattle.plain_examples.proofs.Heads.{largest-0, largest-1, largest-2}
 use Rattle.plain_examples.proofs.Lines.{sevens, of-three, Line, end, then, Rising, last, step, no-record-at, no-others, in-order}
@@ -36,7 +36,7 @@ places = 2048 ∷ 1050638 ∷ 2099228 ∷ []
 module _
     (t : Trace) (steps : Steps (t .next) (t .size)) (n-is : t .size ≡ 3147818) (target : ℤ)
     (one : t .next 2048 ≡ some 1050638) (two : t .next 1050638 ≡ some 2099228) (three : t .next 2099228 ≡ some 3147818)
-    (only : (at m : ℕ) → t .next at ≡ some m → Among at places) where
+    (only : (at m : ℕ) → t .next at ≡ some m → List·Memᴰ at places) where
   abbrev n : ℕ
   n = t .size
 
@@ -71,11 +71,11 @@ module _
       }
 
   -- no boundary between the starts of two records
-  none-by : (at : ℕ) → (Among at places → ⊥) → (b : Bool) → boundary (t .next) n at ≡ b → boundary (t .next) n at ≡ false
+  none-by : (at : ℕ) → (List·Memᴰ at places → ⊥) → (b : Bool) → boundary (t .next) n at ≡ b → boundary (t .next) n at ≡ false
   none-by at other false e = e
   none-by at other true e = absurd (other (only at (boundary-record (t .next) n at e .0) (boundary-record (t .next) n at e .1)))
 
-  between : (low high : ℕ) → ((at : ℕ) → low ≤ at → at < high → Among at places → ⊥) → (at : ℕ) → low ≤ at → at < high → boundary (t .next) n at ≡ false
+  between : (low high : ℕ) → ((at : ℕ) → low ≤ at → at < high → List·Memᴰ at places → ⊥) → (at : ℕ) → low ≤ at → at < high → boundary (t .next) n at ≡ false
   between low high none-there at l h = none-by at (none-there at l h) (boundary (t .next) n at) refl
 
   module _ (early : ltZ (t .millis 1050638) target ≡ true) (late : ltZ (t .millis 2099228) target ≡ false) where
@@ -147,7 +147,7 @@ module _ (kinds : List ℕ) (known : kindOf kinds 0xFE ≡ 3) where
       (bytes-append (blank (second 0) 1048576) rest-1 (bytes-blank kinds known largest-0)
       (bytes-append (blank (second 1) 1048576) (blank (second 2) 1048576) (bytes-blank kinds known largest-1) (bytes-blank kinds known largest-2)))
 
-  only : (at m : ℕ) → t .next at ≡ some m → Among at places
+  only : (at m : ℕ) → t .next at ≡ some m → List·Memᴰ at places
   only = only-at kinds large places bytes marks-are
 
   -- all premises, each record larger than the window, and bounds that cross

@@ -5,7 +5,7 @@ use lib.Dec.{eqb}
 use lib.ListN.{length}
 use lib.Signed.{_≤ℤ_}
 use mathlib.Core.Bool.{Bool, true, false, _||_, true≢false, or-true}
-use mathlib.Core.List.{List, [], _∷_}
+use mathlib.Core.List.{List, [], _∷_, List·Memᴰ, List·Memᴰ·head, List·Memᴰ·tail, List·Memᴰ·not-nil, List·Memᴰ·cases-cons}
 use mathlib.Core.Logic.{⊎-elim}
 use mathlib.Core.Option.{Option, none, some}
 use mathlib.Core.Path.{_≡_, refl, sym, subst, _∙_}
@@ -15,33 +15,32 @@ use Rattle.seam.specs.Seam.{Unbroken, ends, more}
 use Rattle.span.specs.Met.{Trace}
 use Rattle.plain.specs.Plain.{Begins}
 use Rattle.plain.specs.Premises.{NeverDecrease, NoOtherBoundary}
-use Rattle.plain_examples.proofs.Parts.{Among, here, later, split}
 
 -- seven more than each
 abbrev pub sevens : List ℕ → List ℕ
 sevens [] = []
 sevens (x ∷ l) = (x + 7) ∷ sevens l
 
-pub seven-less : (at : ℕ) (l : List ℕ) → Among (at + 7) (sevens l) → Among at l
-seven-less at [] a = absurd (split a)
+pub seven-less : (at : ℕ) (l : List ℕ) → List·Memᴰ (at + 7) (sevens l) → List·Memᴰ at l
+seven-less at [] a = absurd (List·Memᴰ·not-nil a)
 seven-less at (x ∷ l) a =
-    ⊎-elim (λ (e : at + 7 ≡ x + 7). let same : at ≡ x = omega arith in subst (λ (y : ℕ). Among at (y ∷ l)) same here) (λ b. later (seven-less at l b)) (split a)
+    ⊎-elim (λ (e : at + 7 ≡ x + 7). List·Memᴰ·head (omega arith)) (λ b. List·Memᴰ·tail (seven-less at l b)) (List·Memᴰ·cases-cons a)
 
 -- what is among given places, computed
 abbrev among : ℕ → List ℕ → Bool
 among k [] = false
 among k (x ∷ l) = eqb k x || among k l
 
-is-among : {k : ℕ} {l : List ℕ} → Among k l → among k l ≡ true
-is-among {k} here = simp (eq-eqb k k refl)
-is-among {k} (later {x} {l} a) = simp (is-among a, or-true)
+is-among : {k : ℕ} {l : List ℕ} → List·Memᴰ k l → among k l ≡ true
+is-among {k} (List·Memᴰ·head {x} e) = simp (eq-eqb k x e)
+is-among (List·Memᴰ·tail a) = simp (is-among a, or-true)
 
-pub not-among : (k : ℕ) (l : List ℕ) → among k l ≡ false → Among k l → ⊥
+pub not-among : (k : ℕ) (l : List ℕ) → among k l ≡ false → List·Memᴰ k l → ⊥
 not-among k l e a = true≢false (sym (is-among a) ∙ e)
 
 -- one of three
-pub of-three : {X : Type 0} (at a b c : ℕ) → Among at (a ∷ b ∷ c ∷ []) → (at ≡ a → X) → (at ≡ b → X) → (at ≡ c → X) → X
-of-three at a b c in-all one two three = ⊎-elim one (λ x. ⊎-elim two (λ y. ⊎-elim three (λ z. absurd (split z)) (split y)) (split x)) (split in-all)
+pub of-three : {X : Type 0} (at a b c : ℕ) → List·Memᴰ at (a ∷ b ∷ c ∷ []) → (at ≡ a → X) → (at ≡ b → X) → (at ≡ c → X) → X
+of-three at a b c in-all one two three = ⊎-elim one (λ x. ⊎-elim two (λ y. ⊎-elim three (λ z. absurd (List·Memᴰ·not-nil z)) (List·Memᴰ·cases-cons y)) (List·Memᴰ·cases-cons x)) (List·Memᴰ·cases-cons in-all)
 
 module _ (t : Trace) where
   -- records at these places lead from the first of them to an end
@@ -54,15 +53,15 @@ module _ (t : Trace) where
   leads (then e r) = more e (leads r)
 
   -- one of them is one of the records from the first on
-  pub begins-in : {at to place m : ℕ} {l : List ℕ} → Line at l to → Among place l → t .next place ≡ some m → Begins t at place
-  begins-in end a f = absurd (split a)
+  pub begins-in : {at to place m : ℕ} {l : List ℕ} → Line at l to → List·Memᴰ place l → t .next place ≡ some m → Begins t at place
+  begins-in end a f = absurd (List·Memᴰ·not-nil a)
   begins-in {place = place} {m = m} (then {at} e r) a f =
       ⊎-elim
       (λ (same : place ≡ at). record { before = 0; leads = subst (λ (x : ℕ). Unbroken (t .next) x at 0) (sym same) ends; end = m; valid = f })
       (λ b.
       let rest : _ = begins-in r b f in
       record { before = suc (rest .before); leads = more e (rest .leads); end = rest .end; valid = rest .valid })
-      (split a)
+      (List·Memᴰ·cases-cons a)
 
   -- times that do not decrease, from each of them to the next
   pub data Rising : List ℕ → Type 0 where
@@ -70,18 +69,18 @@ module _ (t : Trace) where
     step : {a b : ℕ} {l : List ℕ} → t .millis a ≤ℤ t .millis b → Rising (b ∷ l) → Rising (a ∷ b ∷ l)
 
   rises :
-      {at to place after m : ℕ} {l : List ℕ} → Line at l to → t .next to ≡ none → Rising l → Among place l → t .next place ≡ some after → t .next after ≡ some m
+      {at to place after m : ℕ} {l : List ℕ} → Line at l to → t .next to ≡ none → Rising l → List·Memᴰ place l → t .next place ≡ some after → t .next after ≡ some m
       → t .millis place ≤ℤ t .millis after
-  rises end stops u a e f = absurd (split a)
+  rises end stops u a e f = absurd (List·Memᴰ·not-nil a)
   rises {place = place} {after = after} (then {at} {m = p} g end) stops u a e f =
-      ⊎-elim (λ (same : place ≡ at). absurd (let z : _≡_ {A = ℕ} 0 1 = cc in omega arith)) (λ b. absurd (split b)) (split a)
+      ⊎-elim (λ (same : place ≡ at). absurd (let z : _≡_ {A = ℕ} 0 1 = cc in omega arith)) (λ b. absurd (List·Memᴰ·not-nil b)) (List·Memᴰ·cases-cons a)
   rises {place = place} {after = after} (then {at} {m = p} g (then h r)) stops (step le u) a e f =
       ⊎-elim
       (λ (same : place ≡ at). let next : after ≡ p = cc in rw (same, next) le)
-      (λ b. rises (then h r) stops u b e f) (split a)
+      (λ b. rises (then h r) stops u b e f) (List·Memᴰ·cases-cons a)
 
   -- a trace that has no others meets two of the premises
-  module _ {first to : ℕ} {l : List ℕ} (line : Line first l to) (only : (at m : ℕ) → t .next at ≡ some m → Among at l) where
+  module _ {first to : ℕ} {l : List ℕ} (line : Line first l to) (only : (at m : ℕ) → t .next at ≡ some m → List·Memᴰ at l) where
     none-by : (at : ℕ) → among at l ≡ false → (o : Option ℕ) → t .next at ≡ o → t .next at ≡ none
     none-by at e none f = f
     none-by at e (some m) f = absurd (not-among at l e (only at m f))

@@ -4,7 +4,7 @@ use lib.IntN.{pos}
 use lib.ListN.{length, length-append}
 use lib.Signed.{ltZ, leZ-yes}
 use mathlib.Core.Bool.{true, false}
-use mathlib.Core.List.{List, [], _∷_, _++_, append-assoc, append-nil}
+use mathlib.Core.List.{List, [], _∷_, _++_, append-assoc, append-nil, List·Memᴰ, List·Memᴰ·not-nil, List·Memᴰ·cases-cons}
 use mathlib.Core.Logic.{⊎-elim}
 use mathlib.Core.Option.{some}
 use mathlib.Core.Path.{_≡_, refl, sym, ap, subst, _∙_}
@@ -17,7 +17,7 @@ use Rattle.span.specs.Met.{Trace, traceOf, firstMet}
 use Rattle.plain.specs.Premises.{HasFirst, UnbrokenFrom, NeverDecrease, NoOtherBoundary}
 use Rattle.plain_examples.specs.Traces.{zeros, header, second, millisecond, head, blank, tail, falling, nested}
 use Rattle.plain_examples.specs.Differ.{Differ}
-use Rattle.plain_examples.proofs.Parts.{From, behind, marks, marks-zeros, Bytes, bytes-small, bytes-zeros, bytes-append, begins-marked, Among, split}
+use Rattle.plain_examples.proofs.Parts.{From, behind, marks, marks-zeros, Bytes, bytes-small, bytes-zeros, bytes-append, begins-marked}
 use Rattle.plain_examples.proofs.Blanks.{length-zeros, from-header, marks-header, bytes-header, record-there, blank-there, behind-blank, marks-head, marks-blank, bytes-blank, ended, size-of}
 use Rattle.plain_examples.proofs.Heads.{small-0, small-1, small-2, half-0, half-1, outer-1}
 use Rattle.plain_examples.proofs.Lines.{sevens, seven-less, not-among, Line, end, then, last, step, no-others}
@@ -25,8 +25,8 @@ use Rattle.plain_examples.proofs.Broken.{broken-differs}
 use Rattle.plain_examples.proofs.Halved.{has-first, place, all-unbroken, halved-differs}
 
 -- a record begins only at the places that the marks tell
-pub only-at : (kinds s l : List ℕ) → Bytes s → marks s 0 ≡ sevens l → (at m : ℕ) → nextAt plausible kinds s at ≡ some m → Among at l
-only-at kinds s l bytes is at m e = seven-less at l (subst (Among (at + 7)) is (begins-marked kinds s bytes at m e))
+pub only-at : (kinds s l : List ℕ) → Bytes s → marks s 0 ≡ sevens l → (at m : ℕ) → nextAt plausible kinds s at ≡ some m → List·Memᴰ at l
+only-at kinds s l bytes is at m e = seven-less at l (subst (List·Memᴰ (at + 7)) is (begins-marked kinds s bytes at m e))
 
 module _ (kinds : List ℕ) (known : kindOf kinds 0xFE ≡ 3) where
   -- a trace's bytes, as the Rust tests records
@@ -169,7 +169,7 @@ module _ (kinds : List ℕ) (known : kindOf kinds 0xFE ≡ 3) where
       (bytes-append (head (second 1) 80016) (zeros 40002 ++ blank (second 0) 40001) (bytes-small (head (second 1) 80016) refl)
       (bytes-append (zeros 40002) (blank (second 0) 40001) (bytes-zeros 40002) (bytes-blank kinds known half-0)))
 
-  nested-only : (at m : ℕ) → nextAt plausible kinds nested at ≡ some m → Among at (2048 ∷ 42063 ∷ [])
+  nested-only : (at m : ℕ) → nextAt plausible kinds nested at ≡ some m → List·Memᴰ at (2048 ∷ 42063 ∷ [])
   nested-only = only-at kinds nested (2048 ∷ 42063 ∷ []) nested-bytes nested-marks
 
   -- both end at the end, where no record begins, so that none follows another
@@ -178,8 +178,8 @@ module _ (kinds : List ℕ) (known : kindOf kinds 0xFE ≡ 3) where
       → (first : ℕ) → NeverDecrease (in-bytes nested) first
   alone one two first at after b e a =
       let ends-there : after ≡ 82078 =
-      ⊎-elim (λ (same : at ≡ 2048). cc) (λ c. ⊎-elim (λ (same : at ≡ 42063). cc) (λ d. absurd (split d)) (split c)) (split (nested-only at after e)) in
-      absurd (not-among 82078 (2048 ∷ 42063 ∷ []) refl (subst (λ (x : ℕ). Among x (2048 ∷ 42063 ∷ [])) ends-there (nested-only after (a .end) (a .valid))))
+      ⊎-elim (λ (same : at ≡ 2048). cc) (λ c. ⊎-elim (λ (same : at ≡ 42063). cc) (λ d. absurd (List·Memᴰ·not-nil d)) (List·Memᴰ·cases-cons c)) (List·Memᴰ·cases-cons (nested-only at after e)) in
+      absurd (not-among 82078 (2048 ∷ 42063 ∷ []) refl (subst (λ (x : ℕ). List·Memᴰ x (2048 ∷ 42063 ∷ [])) ends-there (nested-only after (a .end) (a .valid))))
 
   pub boundaries-needed :
       HasFirst (in-bytes nested)

@@ -5,10 +5,9 @@ use lib.Dec.{ltb, eqb}
 use lib.ListN.{length, getD, length-append}
 use lib.Seq.{getD-append-add}
 use mathlib.Core.Bool.{Bool, true, false, cond, _&&_, false≢true, true≢false}
-use mathlib.Core.List.{List, [], _∷_, _++_, append-assoc}
-use mathlib.Core.Logic.{_⊎_, inl, inr}
+use mathlib.Core.List.{List, [], _∷_, _++_, append-assoc, List·Memᴰ, List·Memᴰ·head, List·Memᴰ·tail}
 use mathlib.Core.Option.{some}
-use mathlib.Core.Path.{_≡_, refl, sym, ap, subst, _∙_}
+use mathlib.Core.Path.{_≡_, refl, sym, ap, _∙_}
 use native.Mathlib.Omega.{arith}
 use Rattle.choice.proofs.Choice.{left-true, right-true}
 use Rattle.ticks.specs.Ticks.{cleared}
@@ -103,28 +102,15 @@ unfolding zeros
 marks-zeros zero s i = ap (marks s) (omega arith)
 marks-zeros (suc n) s i = marks-zeros n s (suc i) ∙ ap (marks s) (omega arith)
 
-pub data Among (k : ℕ) : List ℕ → Type 0 where
-  here : {l : List ℕ} → Among k (k ∷ l)
-  later : {x : ℕ} {l : List ℕ} → Among k l → Among k (x ∷ l)
-
--- one of a list is its first or among the rest, and none is among none
-abbrev Split : ℕ → List ℕ → Type 0
-Split k [] = ⊥
-Split k (x ∷ l) = (k ≡ x) ⊎ Among k l
-
-pub split : {k : ℕ} {l : List ℕ} → Among k l → Split k l
-split here = inl refl
-split (later a) = inr a
-
-this-one : (k i : ℕ) (b : Bool) (l : List ℕ) → k ≡ i → b ≡ true → Among k (cond b (i ∷ l) l)
-this-one k i true l e is = subst (λ (x : ℕ). Among k (x ∷ l)) e here
+this-one : (k i : ℕ) (b : Bool) (l : List ℕ) → k ≡ i → b ≡ true → List·Memᴰ k (cond b (i ∷ l) l)
+this-one k i true l e is = List·Memᴰ·head e
 this-one k i false l e is = absurd (false≢true is)
 
-passed : (k i : ℕ) (b : Bool) (l : List ℕ) → Among k l → Among k (cond b (i ∷ l) l)
-passed k i true l a = later a
+passed : (k i : ℕ) (b : Bool) (l : List ℕ) → List·Memᴰ k l → List·Memᴰ k (cond b (i ∷ l) l)
+passed k i true l a = List·Memᴰ·tail a
 passed k i false l a = a
 
-marked : (s : List ℕ) (i k place : ℕ) → place ≡ i + k → mayTicks (getD s k 0) ≡ true → Among place (marks s i)
+marked : (s : List ℕ) (i k place : ℕ) → place ≡ i + k → mayTicks (getD s k 0) ≡ true → List·Memᴰ place (marks s i)
 marked [] i k place is e = absurd (false≢true e)
 marked (b ∷ s) i zero place is e = this-one place i (mayTicks b) (marks s (suc i)) (omega arith) e
 marked (b ∷ s) i (suc k) place is e = passed place i (mayTicks b) (marks s (suc i)) (marked s (suc i) k place (omega arith) e)
@@ -155,10 +141,10 @@ bytes-append (x ∷ a) b p q (suc k) = bytes-append a b (λ i. p (suc i)) q k
 
 -- a record begins seven bytes before a mark
 module _ (kinds s : List ℕ) (bytes : Bytes s) where
-  begins-by : (at m : ℕ) → nextAt plausible kinds s at ≡ some m → (b : Bool) → mayTicks (getD s (at + 7) 0) ≡ b → Among (at + 7) (marks s 0)
+  begins-by : (at m : ℕ) → nextAt plausible kinds s at ≡ some m → (b : Bool) → mayTicks (getD s (at + 7) 0) ≡ b → List·Memᴰ (at + 7) (marks s 0)
   begins-by at m e true is = marked s 0 (at + 7) (at + 7) (omega arith) is
   begins-by at m e false is =
       absurd (true≢false (sym (some-valid plausible kinds s at m e .0) ∙ turned-away s at bytes kinds (ap (λ (b : Bool). b && eqb (getD s (at + 12) 0) 0) is)))
 
-  pub begins-marked : (at m : ℕ) → nextAt plausible kinds s at ≡ some m → Among (at + 7) (marks s 0)
+  pub begins-marked : (at m : ℕ) → nextAt plausible kinds s at ≡ some m → List·Memᴰ (at + 7) (marks s 0)
   begins-marked at m e = begins-by at m e (mayTicks (getD s (at + 7) 0)) refl
