@@ -1,3 +1,4 @@
 pub mod Choice
 pub mod Only
 pub mod Laid
+pub mod Flat

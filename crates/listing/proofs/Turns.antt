@@ -5,12 +5,13 @@ use lib.Dec.{ltb, eqb}
 use lib.IntN.{ℤ}
 use lib.ListN.{length}
 use mathlib.Core.Bool.{Bool, true, false, true≢false}
-use mathlib.Core.List.{List, [], _∷_, _++_, append-assoc, append-nil, flatMap}
+use mathlib.Core.List.{List, _++_, append-assoc, append-nil, flatMap}
 use mathlib.Core.Option.{Option, none, some}
 use mathlib.Core.Path.{_≡_, refl, sym, ap, _∙_}
 use native.Mathlib.Omega.{arith}
 use borrow.Author.Tests.{ltb-true}
 use Rattle.choice.proofs.Choice.{by-choice}
+use Rattle.choice.proofs.Flat.{flat-append}
 use Rattle.layout.specs.Layout.{headerSize}
 use Rattle.record.specs.Record.{plausible, nextAt}
 use Rattle.resync.specs.Search.{searched, defaultWindow}
@@ -75,11 +76,6 @@ module _ (next : ℕ → Option ℕ) (rows : ℕ → List Row) (n : ℕ) (steps 
         {a = lastPage offset 0} {b = pageRefused (t .refusal)}
         (λ z y. absurd (true≢false (sym y)))
         (λ z y. absurd (true≢false (sym y))))
-
-flat-append : (f : Row → List ℕ) (a b : List Row) → flatMap f (a ++ b) ≡ flatMap f a ++ flatMap f b
-unfolding flatMap
-flat-append f [] b = refl
-flat-append f (x ∷ a) b = ap (λ (t : List ℕ). f x ++ t) (flat-append f a b) ∙ sym (append-assoc (f x) (flatMap f a) (flatMap f b))
 
 -- calls that each give the page from their place
 module _ (page : ℕ → PageGiven) (call : ℕ → Call → Type 0) (is-told : (at : ℕ) (c : Call) → call at c → told c ≡ page at .told) (is-rows : (at : ℕ) (c : Call) → call at c → pageRows c ≡ page at .rows)

@@ -30,7 +30,7 @@ use Rattle.rows.proofs.Pti as pti
 use Rattle.rows.proofs.Zniffer as zniffer
 
 -- every frame of a list
-pub AllIn : ℕ → List Placed → Type 0
+unfoldable pub AllIn : ℕ → List Placed → Type 0
 AllIn n [] = Unit
 AllIn n (f ∷ fs) = (f .frame .mpdu + f .frame .«mpdu_len» ≤ n) × AllIn n fs
 
@@ -49,7 +49,7 @@ module _ (p : List ℕ) where
       rw (pti.body p from at len next e)
       (held-in at len (frameOf (take len (drop at p))) refl (body-inside p from at len next e) (ptiFrom p next) (ih next (next-further p from at len next e)))
 
-  pti-by : (t from : ℕ) → length p ≤ from + t → AllIn (length p) (ptiFrom p from)
+  pub pti-by : (t from : ℕ) → length p ≤ from + t → AllIn (length p) (ptiFrom p from)
   unfolding AllIn
   pti-by zero from h = rw (pti.past-end p from (omega arith)) tt
   pti-by (suc t) from h = pti-at from (λ next l. pti-by t next (omega arith)) (nextRecord p from) refl
