@@ -1,0 +1,14 @@
+pub mod Over
+pub mod Pieces
+pub mod Made
+pub mod Taken
+pub mod Split
+pub mod Joined
+pub mod Grouped
+pub mod Frames
+pub mod Rows
+pub mod Places
+pub mod Needed
+pub mod Exactly
+pub mod Beams
+pub mod FrameBeams

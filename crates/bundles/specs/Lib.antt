@@ -1,0 +1,4 @@
+pub mod Bundles
+pub mod Examples
+pub mod Heard
+pub mod Beams
