@@ -1,10 +1,11 @@
 #!/bin/sh
-# build.sh OUT: builds the oracle and the generator below OUT, with plain rustc: no cargo, no crate but std, no network.
+# build.sh OUT: builds the oracle, the generator and the judge of joined payloads below OUT, with plain rustc: no cargo, no crate but
+# std, no network.
 #
 # docs/src is copied to OUT/tree unchanged, beside the stand-ins for what it leans on and does not have. The build has overflow
 # checks, so that a sum that overflows in the Rust is seen and answered by 01's rule instead.
 # RUSTC (default: rustc) is the compiler. OVERFLOW_CHECKS=off builds a plain release, for counting instructions alone. PROGRAMS= builds
-# docs/src alone, for others to link. It ends with OUT/oracle and OUT/cases, or says in one line what is missing.
+# docs/src alone, for others to link. It ends with OUT/oracle, OUT/cases and OUT/bundles, or says in one line what is missing.
 set -eu
 here=$(cd "$(dirname "$0")" && pwd -P)
 rustc=${RUSTC:-rustc} checks=${OVERFLOW_CHECKS:-on}
@@ -32,4 +33,4 @@ stand_in crc16 rlib
 "$rustc" --edition 2024 --crate-type rlib --crate-name zniff_core "$out/tree/lib.rs" -C opt-level=3 -C overflow-checks=$checks \
     --cap-lints allow --out-dir "$out" -L "$out" --extern crc16="$out/libcrc16.rlib" \
     --extern serde="$(echo "$out"/libserde.*)" --extern thiserror="$(echo "$out"/libthiserror.*)"
-for name in ${PROGRAMS-oracle cases}; do program "$name"; done
+for name in ${PROGRAMS-oracle cases bundles}; do program "$name"; done

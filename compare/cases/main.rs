@@ -2,6 +2,7 @@
 //!
 //! Each set opens with the kind table and the version, taken from the built Rust: they are typed in nowhere.
 //! With no SET, it lists the sets.
+mod bundles;
 mod leaves;
 mod pages;
 mod plain;
@@ -66,6 +67,8 @@ const SETS: &[Set] = &[
     Set { name: "plain-halved", text: "the same on traces of 300 to 700 KB with records over 65,536 bytes, on which bounds cross", most: 600, write: plain::halved },
     Set { name: "plain-large", text: "the same on a trace with records larger than the window", most: 1_000, write: plain::large },
     Set { name: "plain-off", text: "the same where the premises do not hold, each alone and together", most: 1_100, write: plain::off },
+    Set { name: "bundles", text: "groups of three PTI payloads, alone and joined, and two as two records and as one; for 02's request 12", most: 350, write: bundles::bundles },
+    Set { name: "bundles-small", text: "every such group of small payloads at which something changes, alone and joined", most: 1_000, write: bundles::small },
 ];
 
 fn sample(cases: &mut Cases, r: &mut Random, most: usize) {

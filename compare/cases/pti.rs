@@ -59,7 +59,7 @@ pub fn body(r: &mut Random) -> Vec<u8> {
 }
 
 /// A bracket record around a body.
-fn bracket(r: &mut Random, body: &[u8]) -> Vec<u8> {
+pub fn bracket(r: &mut Random, body: &[u8]) -> Vec<u8> {
     let mut out = vec![0x5B, (body.len() + 2) as u8, r.byte()];
     out.extend(body);
     out.push(0x5D);
