@@ -9,8 +9,7 @@ use mathlib.Core.Path.{_≡_, refl, sym, ap, _∙_}
 use native.Mathlib.Decide.{decLe}
 use native.Mathlib.Omega.{arith}
 use Rattle.choice.proofs.Flat.{flat-same, flat-append, flat-none, map-flat, flat-map}
-use Rattle.bracket.specs.Bracket.{good, Piece, bodyAt, bodiesFrom, bodies}
-use Rattle.bracket.proofs.Walks.{too-short, unrolled}
+use Rattle.bracket.specs.Bracket.{good, Piece, bodiesFrom, bodies}
 use Rattle.bracket.proofs.Splitting.{good-fits}
 use Rattle.pti.specs.Frame.{frameOf}
 use Rattle.pti.specs.declared.Parsed.{Parsed}
@@ -22,7 +21,7 @@ use Rattle.bundles.specs.Bundles.{bracketOf, bodyIn, Consumed, bytesOf, 
 use Rattle.bundles.specs.Heard.{Heard, heardWith, heardIn, heardBy, heardBody, heard, isPti}
 use Rattle.bundles.proofs.Pieces.{each-body}
 use Rattle.bundles.proofs.Made.{bracket-size, first-contents, made-contents}
-use Rattle.bundles.proofs.Split.{second-contents}
+use Rattle.bundles.proofs.Split.{short-contents, second-contents}
 
 -- a part of a part
 pub part-of-part : (m n len : ℕ) (x : List ℕ) → m + n ≤ length (take len x) → take n (drop m (take len x)) ≡ take n (drop m x)
@@ -59,12 +58,8 @@ unfolding frameOf
 no-bytes = refl
 
 short-heard : (p : List ℕ) → length p ≤ 4 → heard p ≡ []
-unfolding contents bodiesFrom flatMap
-short-heard p short =
-    let none : bodiesFrom p 0 ≡ [] =
-    unrolled (λ (here : ℕ) (l : List Piece). bodyAt p here ++ l) [] p 0 ∙ simp (too-short p 0 short)
-    in
-    heard-bodies p ∙ ap (λ (l : List Piece). flatMap heardBody (map (bytesOf p) l)) none
+unfolding flatMap
+short-heard p short = heard-bodies p ∙ ap (flatMap heardBody) (short-contents p short)
 
 -- the bracket records of the first
 few-bytes : (inners : List (List ℕ)) → length (flatMap bracketOf inners) ≤ 4 → flatMap heardBody (flatMap bodyIn inners) ≡ []

@@ -9,7 +9,7 @@ use Rattle.bracket.specs.Bracket.{steps}
 use Rattle.bracket.proofs.Splitting.{steps-from}
 use Rattle.bundles.specs.Bundles.{bracketOf, Consumed, movedBy, Premises, Kept, KeptPlaces}
 use Rattle.bundles.proofs.Made.{taken-all}
-use Rattle.bundles.proofs.Split as split
+use Rattle.bundles.proofs.Split.{places-kept, kept-places}
 
 -- payloads that are consumed to their last byte are so together
 pub joined-consumed : (p q : List ℕ) → Consumed p → Consumed q → Consumed (p ++ q)
@@ -21,11 +21,11 @@ joined-consumed p q c d =
 
 module _ (p q : List ℕ) (on : Premises p q) where
   -- "splitting the joined payload gives the bodies of the first followed by those of the second"
-  pub joined : Kept p q
-  joined = split.kept p q (on .second-long) (taken-all p (on .first-long) (on .consumed))
-
   pub joined-places : KeptPlaces p q
-  joined-places = split.kept-places p q (on .second-long) (taken-all p (on .first-long) (on .consumed))
+  joined-places = kept-places p q (taken-all p (on .first-long) (on .consumed)) (on .second-long)
+
+  pub joined : Kept p q
+  joined = places-kept p q joined-places
 
   -- what a caller of `next_record` meets who goes on to the end: so many steps are enough for all three
   pub joined-steps : (n : ℕ) → length (p ++ q) ≤ n → steps (p ++ q) n 0 ≡ steps p n 0 ++ map (movedBy (length p)) (steps q n 0)

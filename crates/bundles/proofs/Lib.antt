@@ -3,6 +3,7 @@ pub mod Pieces
 pub mod Made
 pub mod Taken
 pub mod Split
+pub mod Short
 pub mod Joined
 pub mod Grouped
 pub mod Frames

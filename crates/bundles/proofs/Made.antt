@@ -15,6 +15,10 @@ use Rattle.bracket.specs.Bracket.{lengthAt, closeAt, nextAt, good, Piece, bodyA
 use Rattle.bracket.proofs.Walks.{is-good, outside, unrolled}
 use Rattle.bundles.specs.Bundles.{bracketOf, bodyIn, Bytes, Consumed, sizeAt, taken, bytesOf, contents}
 
+-- every join of bracket records is consumed to its last byte; where the bodies have 0 to 253 bytes, or L is 1, it is bytes (`made-bytes`)
+pub made-consumed : (inners : List (List ℕ)) → Consumed (flatMap bracketOf inners)
+made-consumed inners = record { inners = inners; made = refl }
+
 pub bracket-size : (inner : List ℕ) → length (bracketOf inner) ≡ length inner + 3
 unfolding bracketOf
 bracket-size inner = simp length-append (omega arith)

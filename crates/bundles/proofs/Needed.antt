@@ -1,8 +1,9 @@
 -- 02's premises on joined payloads can be met, and each is needed: small payloads, by computation. Assumes nothing.
-use Prim.Native.Nat.{ℕ, _<_}
+use Prim.Native.Nat.{ℕ, _+_, _<_, _≤_}
 use lib.ListN.{length}
 use mathlib.Core.List.{List, [], _∷_, _++_, flatMap}
 use mathlib.Core.Path.{_≡_, refl, ap, _∙_}
+use native.Mathlib.Decide.{decLe}
 use native.Mathlib.Omega.{arith}
 use Rattle.bracket.specs.Bracket.{good, walk, bodiesFrom}
 use Rattle.layout.specs.Layout.{leAt, kindOf}
@@ -11,6 +12,8 @@ use Rattle.rows.specs.Frames.{ptiFrom}
 use Rattle.bundles.specs.Bundles.{bracketOf, Consumed, contents, Premises, Kept}
 use Rattle.bundles.specs.Examples.{one, bare, short, cut, bad, beam, framed, single, double}
 use Rattle.bundles.specs.Heard.{heard, heardRows}
+use Rattle.bundles.proofs.Made.{bracket-size}
+use Rattle.bundles.proofs.Short.{none-gains}
 use Rattle.bundles.proofs.Joined.{joined}
 use Rattle.bundles.proofs.Frames.{joined-heard}
 use Rattle.bundles.proofs.Rows.{rows-say, joined-rows}
@@ -53,6 +56,31 @@ good-to-the-end-needed = (omega arith, omega arith, λ (e : Kept bad one). let z
 pub second-long-needed : (4 < length one) × Consumed one × (Kept one short → ⊥)
 unfolding contents bodiesFrom walk good
 second-long-needed = (omega arith, one-consumed, λ (e : Kept one short). let z : _≡_ {A = ℕ} 2 1 = ap length e in omega arith)
+
+-- and no shorter payloads show either: with a first that is consumed, one of two that are split otherwise has 4 bytes. (In the other two examples both payloads have
+-- 5, the least that the premises on their lengths leave.)
+module _ (p q : List ℕ) (c : Consumed p) (otherwise : Kept p q → ⊥) where
+  one-of-four : (length p ≡ 4 → ⊥) → (length q ≡ 4 → ⊥) → ⊥
+  one-of-four f s =
+      otherwise
+      (none-gains p q c
+      (record {
+        first = λ (x : ℕ) (e : p ≡ bracketOf (x ∷ [])). absurd (f (ap length e ∙ bracket-size (x ∷ [])));
+        second = λ (x : ℕ) (e : q ≡ bracketOf (x ∷ [])). absurd (s (ap length e ∙ bracket-size (x ∷ [])));
+      }))
+
+  nine : (length p ≡ 4 → 4 < length q) → (length q ≡ 4 → 4 < length p) → 9 ≤ length p + length q
+  nine f s = by (decLe 9 (length p + length q))
+    where
+      by : Dec (9 ≤ length p + length q) → 9 ≤ length p + length q
+      by (yes h) = h
+      by (no h) = absurd (one-of-four (λ (e : length p ≡ 4). omega (arith, f e)) (λ (e : length q ≡ 4). omega (arith, s e)))
+
+  pub first-smallest : 4 < length q → length short + length one ≤ length p + length q
+  first-smallest long = nine (λ (e : length p ≡ 4). long) (λ (e : length q ≡ 4). omega arith)
+
+  pub second-smallest : 4 < length p → length one + length short ≤ length p + length q
+  second-smallest long = nine (λ (e : length p ≡ 4). omega arith) (λ (e : length q ≡ 4). long)
 
 -- frames: two payloads with one each, and a first that is cut short, behind which the second's frame is lost
 pub framed-consumed : Consumed framed

@@ -12,9 +12,19 @@ use native.Mathlib.Omega.{arith}
 use Rattle.choice.proofs.Choice.{either}
 use Rattle.choice.proofs.Flat.{map-same}
 use Rattle.bracket.specs.Bracket.{lengthAt, nextAt, good, Piece, bodyAt, walk, bodiesFrom, bodies}
+use Rattle.bracket.proofs.Walks.{too-short, unrolled}
 use Rattle.bracket.proofs.Splitting.{bodies-inside}
 use Rattle.bundles.specs.Bundles.{taken, bytesOf, contents, movedBy, Kept, KeptPlaces}
 use Rattle.bundles.proofs.Over.{same-length, later-length, first, second}
+
+-- 4 bytes or fewer hold nothing
+pub short-bodies : (p : List ℕ) → length p ≤ 4 → bodies p ≡ []
+unfolding bodiesFrom
+short-bodies p short = unrolled (λ (here : ℕ) (l : List Piece). bodyAt p here ++ l) [] p 0 ∙ simp (too-short p 0 short)
+
+pub short-contents : (p : List ℕ) → length p ≤ 4 → contents p ≡ []
+unfolding contents
+short-contents p short = ap (map (bytesOf p)) (short-bodies p short)
 
 -- what follows a walk that joins lists comes last
 list-end : {A : Type 0} (p : List ℕ) (each : ℕ → List A) (more : List A) (n at : ℕ)
@@ -42,12 +52,32 @@ module _ (p q : List ℕ) where
       ap (take (b .len)) (drop-append-le (b .at) p q (omega arith))
       ∙ take-append-le (b .len) (drop (b .at) p) q (omega (arith, length-drop (b .at) p))
 
+  first-bytes : map (bytesOf (p ++ q)) (bodies p) ≡ contents p
+  unfolding contents
+  first-bytes = map-same (bytesOf (p ++ q)) (bytesOf p) (bodies p) same-body
+
+  -- and so have the second's, further on
+  moved-bytes : map (bytesOf (p ++ q)) (map (movedBy (length p)) (bodies q)) ≡ contents q
+  unfolding contents
+  moved-bytes =
+      map-map (bytesOf (p ++ q)) (movedBy (length p)) (bodies q)
+      ∙ map-same (λ (b : Piece). bytesOf (p ++ q) (movedBy (length p) b)) (bytesOf q) (bodies q)
+      (λ (b : Piece) (m : List·Memᴰ b (bodies q)). ap (take (b .len)) (drop-append-add p q (b .at)))
+
   pub contents-on : contents (p ++ q) ≡ contents p ++ map (bytesOf (p ++ q)) (bodiesFrom (p ++ q) (taken p))
   unfolding contents
   contents-on =
       ap (map (bytesOf (p ++ q))) split-on
       ∙ map-append (bytesOf (p ++ q)) (bodies p) (bodiesFrom (p ++ q) (taken p))
-      ∙ ap (λ (l : List (List ℕ)). l ++ map (bytesOf (p ++ q)) (bodiesFrom (p ++ q) (taken p))) (map-same (bytesOf (p ++ q)) (bytesOf p) (bodies p) same-body)
+      ∙ ap (λ (l : List (List ℕ)). l ++ map (bytesOf (p ++ q)) (bodiesFrom (p ++ q) (taken p))) first-bytes
+
+  -- what is kept as places is kept as bytes
+  pub places-kept : KeptPlaces p q → Kept p q
+  unfolding contents
+  places-kept e =
+      ap (map (bytesOf (p ++ q))) e
+      ∙ map-append (bytesOf (p ++ q)) (bodies p) (map (movedBy (length p)) (bodies q))
+      ∙ rw (first-bytes, moved-bytes) refl
 
   -- from the second's first byte on
   module _ (long : 4 < length q) where
@@ -58,26 +88,19 @@ module _ (p q : List ℕ) where
         (λ (t : ltb 1 (lengthAt q k) ≡ true). simp (t, add-assoc (length p) k 3))
         (λ (t : ltb 1 (lengthAt q k) ≡ false). simp t))
 
-    second-bodies : bodiesFrom (p ++ q) (length p) ≡ map (movedBy (length p)) (bodies q)
+    pub second-bodies : bodiesFrom (p ++ q) (length p) ≡ map (movedBy (length p)) (bodies q)
     unfolding bodiesFrom
     second-bodies =
         second p q (λ (here : ℕ) (l : List Piece). bodyAt q here ++ l) [] (λ (here : ℕ) (l : List Piece). bodyAt (p ++ q) here ++ l)
         (map (movedBy (length p))) long moved-body
 
     pub second-contents : map (bytesOf (p ++ q)) (bodiesFrom (p ++ q) (length p)) ≡ contents q
-    unfolding contents
-    second-contents =
-        ap (map (bytesOf (p ++ q))) second-bodies
-        ∙ map-map (bytesOf (p ++ q)) (movedBy (length p)) (bodies q)
-        ∙ map-same (λ (b : Piece). bytesOf (p ++ q) (movedBy (length p) b)) (bytesOf q) (bodies q)
-        (λ (b : Piece) (m : List·Memᴰ b (bodies q)). ap (take (b .len)) (drop-append-add p q (b .at)))
+    second-contents = ap (map (bytesOf (p ++ q))) second-bodies ∙ moved-bytes
 
-    -- where the first's good records take all of it
-    module _ (all : taken p ≡ length p) where
-      pub kept-places : KeptPlaces p q
-      kept-places = split-on ∙ ap (λ (l : List Piece). bodies p ++ l) (ap (bodiesFrom (p ++ q)) all ∙ second-bodies)
+  -- where the first's good records take all of it
+  module _ (all : taken p ≡ length p) where
+    pub first-bodies : bodies (p ++ q) ≡ bodies p ++ bodiesFrom (p ++ q) (length p)
+    first-bodies = split-on ∙ ap (λ (k : ℕ). bodies p ++ bodiesFrom (p ++ q) k) all
 
-      pub kept : Kept p q
-      kept =
-          contents-on
-          ∙ ap (λ (l : List (List ℕ)). contents p ++ l) (ap (λ (k : ℕ). map (bytesOf (p ++ q)) (bodiesFrom (p ++ q) k)) all ∙ second-contents)
+    pub kept-places : 4 < length q → KeptPlaces p q
+    kept-places long = first-bodies ∙ ap (λ (l : List Piece). bodies p ++ l) (second-bodies long)

@@ -22,7 +22,7 @@ last-three a b c d e h =
 
 -- what a good bracket record is made of, and that it is
 module _ (p : List ℕ) where
-  abbrev innerAt : ℕ → List ℕ
+  abbrev pub innerAt : ℕ → List ℕ
   innerAt at = take (lengthAt p at - 1) (drop (at + 2) p)
 
   abbrev innersFrom : ℕ → ℕ → List (List ℕ)
@@ -39,10 +39,10 @@ module _ (p : List ℕ) where
     pub closed : getD p (closeAt p at) 0 ≡ 0x5D
     closed = eqb-true (getD p (closeAt p at) 0) 0x5D (said .1)
 
-    some : 0 < lengthAt p at
+    pub some : 0 < lengthAt p at
     some = ltb-true 0 (lengthAt p at) (said .2)
 
-    inner-size : length (innerAt at) ≡ lengthAt p at - 1
+    pub inner-size : length (innerAt at) ≡ lengthAt p at - 1
     inner-size = length-take-le (lengthAt p at - 1) (drop (at + 2) p) (omega (arith, length-drop (at + 2) p, good-fits p at g, some))
 
     -- from 0x5D on, and from the skipped byte on
@@ -53,7 +53,7 @@ module _ (p : List ℕ) where
         ∙ drop-cons p (closeAt p at) 0 (good-fits p at g)
         ∙ rw (closed, sym (add-one (closeAt p at))) refl
 
-    one-record : drop at p ≡ bracketOf (innerAt at) ++ drop (nextAt p at) p
+    pub one-record : drop at p ≡ bracketOf (innerAt at) ++ drop (nextAt p at) p
     unfolding bracketOf
     one-record =
         drop-cons p at 0 (omega (arith, good-fits p at g))

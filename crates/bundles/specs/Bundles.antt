@@ -70,3 +70,9 @@ unfoldable pub Bundle : List (List ℕ) → Type 0
 Bundle [] = Unit
 Bundle (p ∷ []) = 4 < length p
 Bundle (p ∷ (q ∷ ps)) = (4 < length p) × Consumed p × Bundle (q ∷ ps)
+
+-- 01: "A payload of 4 bytes or fewer holds nothing". Beside other bytes one such payload comes to have a body: a bracket record whose body is empty. Where the
+-- first is consumed, splitting the joined payload gives the bodies of both exactly where that does not happen (`none-gains`, `gains-nothing` of proofs/Short.antt)
+pub record NoneGains (p q : List ℕ) : Type 0 where
+  pub first : (skipped : ℕ) → p ≡ bracketOf (skipped ∷ []) → q ≡ []
+  pub second : (skipped : ℕ) → q ≡ bracketOf (skipped ∷ []) → p ≡ []
