@@ -8,8 +8,8 @@ use Rattle.choice.proofs.Flat.{flat-append}
 use Rattle.bracket.specs.Bracket.{steps}
 use Rattle.bracket.proofs.Splitting.{steps-from}
 use Rattle.bundles.specs.Bundles.{bracketOf, Consumed, movedBy, Premises, Kept, KeptPlaces}
-use Rattle.bundles.proofs.Made.{taken-all}
-use Rattle.bundles.proofs.Split.{places-kept, kept-places}
+use Rattle.bundles.proofs.Split.{places-kept}
+use Rattle.bundles.proofs.Whole.{four-bytes, alone-beside, kept-there}
 
 -- payloads that are consumed to their last byte are so together
 pub joined-consumed : (p q : List ℕ) → Consumed p → Consumed q → Consumed (p ++ q)
@@ -22,7 +22,10 @@ joined-consumed p q c d =
 module _ (p q : List ℕ) (on : Premises p q) where
   -- "splitting the joined payload gives the bodies of the first followed by those of the second"
   pub joined-places : KeptPlaces p q
-  joined-places = kept-places p q (taken-all p (on .first-long) (on .consumed)) (on .second-long)
+  joined-places =
+      kept-there p q (on .consumed)
+      (alone-beside p q (four-bytes p (λ (e : length p ≡ 4). omega (arith, on .first-long))))
+      (alone-beside q p (four-bytes q (λ (e : length q ≡ 4). omega (arith, on .second-long))))
 
   pub joined : Kept p q
   joined = places-kept p q joined-places

@@ -3,7 +3,7 @@ pub mod Pieces
 pub mod Made
 pub mod Taken
 pub mod Split
-pub mod Short
+pub mod Whole
 pub mod Joined
 pub mod Grouped
 pub mod Frames

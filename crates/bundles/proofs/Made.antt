@@ -6,7 +6,6 @@ use mathlib.Core.Bool.{true, false}
 use mathlib.Core.List.{List, [], _∷_, _++_, append-assoc, append-nil, foldr, map, map-append, flatMap, List·Memᴰ, List·Memᴰ·head, List·Memᴰ·tail, List·Memᴰ·eq-of-singleton, List·Memᴰ·append-cases, List·Memᴰ·cases-cons}
 use mathlib.Core.Logic.{⊎-elim}
 use mathlib.Core.Path.{_≡_, refl, sym, ap, _∙_}
-use native.Mathlib.Nat.{add-zero, zero-add}
 use native.Mathlib.Omega.{arith}
 use borrow.Author.Tests.{lt-ltb, le-ltb}
 use Rattle.choice.proofs.Choice.{either}
@@ -28,7 +27,7 @@ module _ (w : List ℕ) (long : 4 < length w) (pre inner rest : List ℕ) (is : 
   there-byte : (k : ℕ) → getD w (length pre + k) 0 ≡ getD (bracketOf inner ++ rest) k 0
   there-byte k = ap (λ (x : List ℕ). getD x (length pre + k) 0) is ∙ getD-append-add pre (bracketOf inner ++ rest) k 0
 
-  there-length : lengthAt w (length pre) ≡ length inner + 1
+  pub there-length : lengthAt w (length pre) ≡ length inner + 1
   unfolding bracketOf
   there-length = there-byte 1
 
@@ -43,7 +42,7 @@ module _ (w : List ℕ) (long : 4 < length w) (pre inner rest : List ℕ) (is : 
       ∙ ap (λ (x : List ℕ). getD x (length inner) 0) (append-assoc inner _ rest)
       ∙ getD-append-seam inner _ rest 0
 
-  there-good : good w (length pre) ≡ true
+  pub there-good : good w (length pre) ≡ true
   unfolding bracketOf
   there-good =
       is-good w (length pre) long
@@ -57,31 +56,19 @@ module _ {A : Type 0} (w : List ℕ) (long : 4 < length w) (each : ℕ → A →
   abbrev from : ℕ → A
   from at = walk each end w (length w) at
 
-  made-walk : (pre : List ℕ) (inners : List (List ℕ)) (more : List ℕ) → w ≡ pre ++ (flatMap bracketOf inners ++ more)
-      → from (length pre) ≡ foldr made (from (length pre + length (flatMap bracketOf inners))) inners
+  made-walk : (pre : List ℕ) (inners : List (List ℕ)) → w ≡ pre ++ flatMap bracketOf inners → from (length pre) ≡ foldr made end inners
   unfolding flatMap
-  made-walk pre [] more is = ap from (sym (add-zero (length pre)))
-  made-walk pre (i ∷ inners) more is =
+  made-walk pre [] is = sym (outside each end w (length w) (length pre) (omega (arith, ap length (is ∙ append-nil pre))))
+  made-walk pre (i ∷ inners) is =
       let rest = flatMap bracketOf inners in
-      let there : w ≡ pre ++ (bracketOf i ++ (rest ++ more)) = is ∙ ap (λ (l : List ℕ). pre ++ l) (append-assoc (bracketOf i) rest more) in
-      let place : length (pre ++ bracketOf i) + length rest ≡ length pre + length (bracketOf i ++ rest) =
-      omega (arith, length-append pre (bracketOf i), length-append (bracketOf i) rest)
-      in
       unrolled each end w (length pre)
-      ∙ simp (there-good w long pre i (rest ++ more) there)
-      (ap (λ (k : ℕ). each (length pre) (from k)) (there-next w long pre i (rest ++ more) there)
-      ∙ ap (each (length pre)) (made-walk (pre ++ bracketOf i) inners more (there ∙ sym (append-assoc pre (bracketOf i) (rest ++ more))))
-      ∙ same pre i (rest ++ more) there _
-      ∙ ap (λ (k : ℕ). made i (foldr made (from k) inners)) place)
-
-  -- with more bytes behind them, and without
-  made-first : (inners : List (List ℕ)) (more : List ℕ) → w ≡ flatMap bracketOf inners ++ more → from 0 ≡ foldr made (from (length (flatMap bracketOf inners))) inners
-  made-first inners more is = made-walk [] inners more is ∙ ap (λ (k : ℕ). foldr made (from k) inners) (zero-add _)
+      ∙ simp (there-good w long pre i rest is)
+      (ap (λ (k : ℕ). each (length pre) (from k)) (there-next w long pre i rest is)
+      ∙ ap (each (length pre)) (made-walk (pre ++ bracketOf i) inners (is ∙ sym (append-assoc pre (bracketOf i) rest)))
+      ∙ same pre i rest is _)
 
   made-of : (inners : List (List ℕ)) → w ≡ flatMap bracketOf inners → from 0 ≡ foldr made end inners
-  made-of inners is =
-      made-first inners [] (is ∙ sym (append-nil (flatMap bracketOf inners)))
-      ∙ ap (λ (a : A). foldr made a inners) (sym (outside each end w (length w) (length (flatMap bracketOf inners)) (omega (arith, ap length is))))
+  made-of inners is = made-walk [] inners is
 
 -- the splitter takes all of it
 sizes : (inners : List (List ℕ)) → foldr (λ (i : List ℕ) (n : ℕ). (length i + 3) + n) 0 inners ≡ length (flatMap bracketOf inners)
@@ -125,46 +112,32 @@ there-body w long pre (skipped ∷ body) rest is =
         ∙ ap (take (length body)) (drop-append-add pre (bracketOf (skipped ∷ body) ++ rest) 3 ∙ append-assoc body _ rest)
         ∙ take-append-seam body _
 
-laid : (inners more : List (List ℕ)) → foldr (λ (i : List ℕ) (l : List (List ℕ)). bodyIn i ++ l) more inners ≡ flatMap bodyIn inners ++ more
+laid : (inners : List (List ℕ)) → foldr (λ (i : List ℕ) (l : List (List ℕ)). bodyIn i ++ l) [] inners ≡ flatMap bodyIn inners
 unfolding flatMap
-laid [] more = refl
-laid (i ∷ inners) more = ap (λ (l : List (List ℕ)). bodyIn i ++ l) (laid inners more) ∙ sym (append-assoc (bodyIn i) (flatMap bodyIn inners) more)
+laid [] = refl
+laid (i ∷ inners) = ap (λ (l : List (List ℕ)). bodyIn i ++ l) (laid inners)
 
--- splitting gives the bodies of the bracket records that a payload begins with, and those from there on
-module _ (w : List ℕ) (long : 4 < length w) (inners : List (List ℕ)) where
-  abbrev contentsFrom : ℕ → List (List ℕ)
-  contentsFrom at = map (bytesOf w) (bodiesFrom w at)
-
+-- splitting gives the bodies of the bracket records that a payload is made of
+module _ (w : List ℕ) (long : 4 < length w) where
   with-bytes : ℕ → List (List ℕ) → List (List ℕ)
   with-bytes here l = map (bytesOf w) (bodyAt w here) ++ l
 
-  as-bytes : (at : ℕ) → contentsFrom at ≡ walk with-bytes [] w (length w) at
-  unfolding bodiesFrom with-bytes
-  as-bytes at =
+  as-bytes : contents w ≡ walk with-bytes [] w (length w) 0
+  unfolding contents bodiesFrom with-bytes
+  as-bytes =
       through (map (bytesOf w)) (λ (here : ℕ) (l : List Piece). bodyAt w here ++ l) with-bytes [] w
-      (λ (here : ℕ) (l : List Piece). map-append (bytesOf w) (bodyAt w here) l) (length w) at
+      (λ (here : ℕ) (l : List Piece). map-append (bytesOf w) (bodyAt w here) l) (length w) 0
 
   there-bytes : (pre inner rest : List ℕ) → w ≡ pre ++ (bracketOf inner ++ rest) → (l : List (List ℕ)) → with-bytes (length pre) l ≡ bodyIn inner ++ l
   unfolding with-bytes
   there-bytes pre inner rest is l = ap (λ (b : List (List ℕ)). b ++ l) (there-body w long pre inner rest is)
 
-  pub first-contents : (more : List ℕ) → w ≡ flatMap bracketOf inners ++ more → contents w ≡ flatMap bodyIn inners ++ contentsFrom (length (flatMap bracketOf inners))
-  unfolding contents
-  first-contents more is =
-      as-bytes 0
-      ∙ made-first w long with-bytes [] (λ (i : List ℕ) (l : List (List ℕ)). bodyIn i ++ l) there-bytes inners more is
-      ∙ laid inners _
-      ∙ ap (λ (l : List (List ℕ)). flatMap bodyIn inners ++ l) (sym (as-bytes (length (flatMap bracketOf inners))))
-
--- and the bodies of those that it is made of
 pub made-contents : (inners : List (List ℕ)) → 4 < length (flatMap bracketOf inners) → contents (flatMap bracketOf inners) ≡ flatMap bodyIn inners
-unfolding contents
 made-contents inners long =
     let w = flatMap bracketOf inners in
-    as-bytes w long inners 0
-    ∙ made-of w long (with-bytes w long inners) [] (λ (i : List ℕ) (l : List (List ℕ)). bodyIn i ++ l) (there-bytes w long inners) inners refl
-    ∙ laid inners []
-    ∙ append-nil (flatMap bodyIn inners)
+    as-bytes w long
+    ∙ made-of w long (with-bytes w long) [] (λ (i : List ℕ) (l : List (List ℕ)). bodyIn i ++ l) (there-bytes w long) inners refl
+    ∙ laid inners
 
 -- such a payload is bytes, if what it was made of is: L is a byte where a body has 253 bytes at most
 by-place : (l : List ℕ) → ((x : ℕ) → List·Memᴰ x l → x < 256) → (k : ℕ) → getD l k 0 < 256

@@ -12,8 +12,8 @@ use Rattle.rows.specs.Frames.{ptiFrom}
 use Rattle.bundles.specs.Bundles.{bracketOf, Consumed, contents, Premises, Kept}
 use Rattle.bundles.specs.Examples.{one, bare, short, cut, bad, beam, framed, single, double}
 use Rattle.bundles.specs.Heard.{heard, heardRows}
-use Rattle.bundles.proofs.Made.{bracket-size}
-use Rattle.bundles.proofs.Short.{none-gains}
+use Rattle.bundles.proofs.Split.{places-kept}
+use Rattle.bundles.proofs.Whole.{four-bytes, alone-beside, kept-there}
 use Rattle.bundles.proofs.Joined.{joined}
 use Rattle.bundles.proofs.Frames.{joined-heard}
 use Rattle.bundles.proofs.Rows.{rows-say, joined-rows}
@@ -61,13 +61,7 @@ second-long-needed = (omega arith, one-consumed, λ (e : Kept one short). let z 
 -- 5, the least that the premises on their lengths leave.)
 module _ (p q : List ℕ) (c : Consumed p) (otherwise : Kept p q → ⊥) where
   one-of-four : (length p ≡ 4 → ⊥) → (length q ≡ 4 → ⊥) → ⊥
-  one-of-four f s =
-      otherwise
-      (none-gains p q c
-      (record {
-        first = λ (x : ℕ) (e : p ≡ bracketOf (x ∷ [])). absurd (f (ap length e ∙ bracket-size (x ∷ [])));
-        second = λ (x : ℕ) (e : q ≡ bracketOf (x ∷ [])). absurd (s (ap length e ∙ bracket-size (x ∷ [])));
-      }))
+  one-of-four f s = otherwise (places-kept p q (kept-there p q c (alone-beside p q (four-bytes p f)) (alone-beside q p (four-bytes q s))))
 
   nine : (length p ≡ 4 → 4 < length q) → (length q ≡ 4 → 4 < length p) → 9 ≤ length p + length q
   nine f s = by (decLe 9 (length p + length q))

@@ -52,17 +52,16 @@ module _ (p q : List ℕ) where
       ap (take (b .len)) (drop-append-le (b .at) p q (omega arith))
       ∙ take-append-le (b .len) (drop (b .at) p) q (omega (arith, length-drop (b .at) p))
 
-  first-bytes : map (bytesOf (p ++ q)) (bodies p) ≡ contents p
+  pub first-bytes : map (bytesOf (p ++ q)) (bodies p) ≡ contents p
   unfolding contents
   first-bytes = map-same (bytesOf (p ++ q)) (bytesOf p) (bodies p) same-body
 
-  -- and so have the second's, further on
-  moved-bytes : map (bytesOf (p ++ q)) (map (movedBy (length p)) (bodies q)) ≡ contents q
-  unfolding contents
-  moved-bytes =
-      map-map (bytesOf (p ++ q)) (movedBy (length p)) (bodies q)
-      ∙ map-same (λ (b : Piece). bytesOf (p ++ q) (movedBy (length p) b)) (bytesOf q) (bodies q)
-      (λ (b : Piece) (m : List·Memᴰ b (bodies q)). ap (take (b .len)) (drop-append-add p q (b .at)))
+  -- and so have any of the second, further on
+  pub moved-bytes : (l : List Piece) → map (bytesOf (p ++ q)) (map (movedBy (length p)) l) ≡ map (bytesOf q) l
+  moved-bytes l =
+      map-map (bytesOf (p ++ q)) (movedBy (length p)) l
+      ∙ map-same (λ (b : Piece). bytesOf (p ++ q) (movedBy (length p) b)) (bytesOf q) l
+      (λ (b : Piece) (m : List·Memᴰ b l). ap (take (b .len)) (drop-append-add p q (b .at)))
 
   pub contents-on : contents (p ++ q) ≡ contents p ++ map (bytesOf (p ++ q)) (bodiesFrom (p ++ q) (taken p))
   unfolding contents
@@ -77,7 +76,7 @@ module _ (p q : List ℕ) where
   places-kept e =
       ap (map (bytesOf (p ++ q))) e
       ∙ map-append (bytesOf (p ++ q)) (bodies p) (map (movedBy (length p)) (bodies q))
-      ∙ rw (first-bytes, moved-bytes) refl
+      ∙ rw (first-bytes, moved-bytes (bodies q)) refl
 
   -- from the second's first byte on
   module _ (long : 4 < length q) where
@@ -94,13 +93,7 @@ module _ (p q : List ℕ) where
         second p q (λ (here : ℕ) (l : List Piece). bodyAt q here ++ l) [] (λ (here : ℕ) (l : List Piece). bodyAt (p ++ q) here ++ l)
         (map (movedBy (length p))) long moved-body
 
-    pub second-contents : map (bytesOf (p ++ q)) (bodiesFrom (p ++ q) (length p)) ≡ contents q
-    second-contents = ap (map (bytesOf (p ++ q))) second-bodies ∙ moved-bytes
-
   -- where the first's good records take all of it
   module _ (all : taken p ≡ length p) where
     pub first-bodies : bodies (p ++ q) ≡ bodies p ++ bodiesFrom (p ++ q) (length p)
     first-bodies = split-on ∙ ap (λ (k : ℕ). bodies p ++ bodiesFrom (p ++ q) k) all
-
-    pub kept-places : 4 < length q → KeptPlaces p q
-    kept-places long = first-bodies ∙ ap (λ (l : List Piece). bodies p ++ l) (second-bodies long)

@@ -1,6 +1,8 @@
 -- PTI payloads joined one after the other, and what splitting gives: 02's request 12.
 use Prim.Native.Nat.{ℕ, _+_, _<_}
-use lib.ListN.{length, take, drop}
+use lib.Dec.{eqb}
+use lib.ListN.{length, getD, take, drop}
+use mathlib.Core.Bool.{Bool, _&&_, cond}
 use mathlib.Core.List.{List, [], _∷_, _++_, map, flatMap, List·Memᴰ}
 use mathlib.Core.Path.{_≡_}
 use Rattle.bracket.specs.Bracket.{lengthAt, Piece, walk, bodies}
@@ -71,8 +73,18 @@ Bundle [] = Unit
 Bundle (p ∷ []) = 4 < length p
 Bundle (p ∷ (q ∷ ps)) = (4 < length p) × Consumed p × Bundle (q ∷ ps)
 
--- 01: "A payload of 4 bytes or fewer holds nothing". Beside other bytes one such payload comes to have a body: a bracket record whose body is empty. Where the
--- first is consumed, splitting the joined payload gives the bodies of both exactly where that does not happen (`none-gains`, `gains-nothing` of proofs/Short.antt)
-pub record NoneGains (p q : List ℕ) : Type 0 where
-  pub first : (skipped : ℕ) → p ≡ bracketOf (skipped ∷ []) → q ≡ []
-  pub second : (skipped : ℕ) → q ≡ bracketOf (skipped ∷ []) → p ≡ []
+-- What a payload holds beside another. 01: "A payload of 4 bytes or fewer holds nothing"; so does a bracket record with an empty body, 5B 02 x 5D, while it is
+-- alone, and beside other bytes it holds that body. Every other payload holds what it holds alone
+unfoldable pub emptyRecord : List ℕ → Bool
+emptyRecord p = eqb (length p) 4 && (eqb (getD p 0 0) 0x5B && (eqb (getD p 1 0) 2 && eqb (getD p 3 0) 0x5D))
+
+abbrev pub emptyBody : Piece
+emptyBody = record { at = 3; len = 0 }
+
+unfoldable pub beside : List ℕ → List ℕ → List Piece
+beside p [] = bodies p
+beside p (x ∷ q) = cond (emptyRecord p) (emptyBody ∷ []) (bodies p)
+
+-- all that splitting the joined payload gives, with no premise on the lengths
+abbrev pub Whole : List ℕ → List ℕ → Type 0
+Whole p q = bodies (p ++ q) ≡ beside p q ++ map (movedBy (length p)) (beside q p)

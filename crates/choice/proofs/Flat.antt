@@ -29,12 +29,6 @@ module _ {A B : Type 0} where
   flat-append f [] b = refl
   flat-append f (x ∷ a) b = ap (λ (t : List B). f x ++ t) (flat-append f a b) ∙ sym (append-assoc (f x) (flatMap f a) (flatMap f b))
 
-  -- where each gives none
-  pub flat-none : (f : A → List B) (l : List A) → ((a : A) → List·Memᴰ a l → f a ≡ []) → flatMap f l ≡ []
-  unfolding flatMap
-  flat-none f [] h = refl
-  flat-none f (x ∷ l) h = rw (h x (List·Memᴰ·head refl), flat-none f l (λ (a : A) (m : List·Memᴰ a l). h a (List·Memᴰ·tail m))) refl
-
 pub flatten-append : {A : Type 0} (a b : List (List A)) → flatten (a ++ b) ≡ flatten a ++ flatten b
 unfolding flatten
 flatten-append [] b = refl
