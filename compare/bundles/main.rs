@@ -2,13 +2,14 @@
 //!
 //! The premises are judged from the payloads' bytes (premises.rs), the law from the answers alone; nothing here splits a payload. Where the
 //! premises hold, the joined payload's bodies have to be those of the first followed by those of the second, and the rows of two records
-//! those of one. Where one is missing, it is counted how often the law does not hold. For frames alone the first's premise of being consumed
-//! is enough, and the law for them is held wherever it is met. No beam count of a body from a bracket record may be over 78. Status 3 and
-//! one line where a law is broken, 2 where answers do not fit the cases; else the counts in one line.
+//! those of one. Where one is missing, it is counted how often the law does not hold. The first's premise of being consumed is enough for
+//! two laws more, which are held wherever it is met: the frames are those of the two; and the bodies are those that each holds beside the
+//! other, which is what it holds alone, but for 5B 02 x 5D. No beam count of a body from a bracket record may be over 78. Status 3 and one
+//! line where a law is broken, 2 where answers do not fit the cases; else the counts in one line.
 mod premises;
 mod read;
 
-use premises::{MISSING, consumed, has_one, long, missing};
+use premises::{MISSING, consumed, empty_record, has_one, long, missing};
 use read::{Body, Both, Frame, Page, Payload, beams};
 
 /// A bracket record's body has 253 bytes at most, so that its radio part has 236 at most and holds a pattern of 3 bytes 78 times.
@@ -35,9 +36,9 @@ fn broken<T>(text: String) -> Result<T, Ends> {
 }
 
 /// What was seen: pairs on the premises, those with frames in both payloads, and with an L of 1; groups of three on them; pairs whose
-/// rows were compared, and those rows; pairs off the premises by what is missing, and those for which the law does not hold. For frames:
-/// pairs that are held to their law with a payload too short, and those with a frame in either payload; pairs whose first is not consumed
-/// and whose frames are others.
+/// rows were compared, and those rows; pairs off the premises by what is missing, and those for which the law does not hold. Of those whose
+/// first is consumed: pairs that are split alike, and pairs that gain a body. For frames: pairs that are held to their law with a payload
+/// too short, and those with a frame in either payload; pairs whose first is not consumed and whose frames are others.
 #[derive(Default)]
 struct Seen {
     pairs: u64,
@@ -47,16 +48,27 @@ struct Seen {
     traces: u64,
     rows: u64,
     off: [[u64; 2]; MISSING.len()],
+    alike: u64,
+    gained: u64,
     short: u64,
     short_framed: u64,
     frames_otherwise: u64,
     beams: u64,
 }
 
-/// The bodies of the first payload, then those of the second, whose places are moved on by the first's length.
-fn followed<'a>(first: &Payload<'a>, second: &Payload<'a>) -> Vec<Body<'a>> {
-    let moved = second.bodies.iter().map(|b| Body { place: b.place + first.bytes.len(), ..b.clone() });
-    first.bodies.iter().cloned().chain(moved).collect()
+/// Bodies of a first payload of this length, then those of a second, whose places are moved on by it.
+fn followed<'a>(first: &[Body<'a>], length: usize, second: &[Body<'a>]) -> Vec<Body<'a>> {
+    let moved = second.iter().map(|b| Body { place: b.place + length, ..b.clone() });
+    first.iter().cloned().chain(moved).collect()
+}
+
+/// The bodies that a payload holds beside another: those that it holds alone. Only where it is a bracket record with an empty body and
+/// nothing else, and the other is not empty, it is that body: alone it holds nothing, which `group` asks of it.
+fn beside<'a>(payload: &Payload<'a>, other: &Payload) -> Vec<Body<'a>> {
+    if empty_record(payload.bytes) && !other.bytes.is_empty() {
+        return vec![Body { place: 3, length: "0", frame: Frame::new() }];
+    }
+    payload.bodies.clone()
 }
 
 /// The frames of these payloads, in order. A body that holds none has no part in them.
@@ -92,19 +104,27 @@ impl Seen {
         Ok(())
     }
 
-    /// The law for two payloads and the joined one: whether they are on its premises.
+    /// The law for two payloads and the joined one: whether they are on 02's premises. What is held wherever the first is consumed is the
+    /// law of 02 on them, since both are longer than an empty record there.
     fn pair(&mut self, first: &Payload, second: &Payload, joined: &Payload) -> Result<bool, Ends> {
         self.frames_alike(first, second, joined)?;
-        let wanted = followed(first, second);
-        if let Some(m) = missing(first.bytes, second.bytes) {
+        let (missing, consumed_first) = (missing(first.bytes, second.bytes), consumed(first.bytes));
+        let how = if missing.is_none() { "on the premises" } else { "with a first that is consumed" };
+        let case = format!("case {}, joined {how}", joined.number);
+        if consumed_first {
+            let wanted = followed(&beside(first, second), first.bytes.len(), &beside(second, first));
+            if let Some(text) = differs(&wanted, &joined.bodies, Body::text) {
+                return broken(format!("{case}: body {text}"));
+            }
+        }
+        if let Some(m) = missing {
+            let alike = joined.bodies == followed(&first.bodies, first.bytes.len(), &second.bodies);
             let [pairs, otherwise] = &mut self.off[m as usize];
             *pairs += 1;
-            *otherwise += (joined.bodies != wanted) as u64;
+            *otherwise += !alike as u64;
+            self.alike += (consumed_first && alike) as u64;
+            self.gained += (consumed_first && !alike) as u64;
             return Ok(false);
-        }
-        let case = format!("case {}, joined on the premises", joined.number);
-        if let Some(text) = differs(&wanted, &joined.bodies, Body::text) {
-            return broken(format!("{case}: body {text}"));
         }
         if !long(joined.bytes) || consumed(second.bytes) && !consumed(joined.bytes) {
             return broken(format!("{case}: the joined payload is too short, or not consumed"));
@@ -116,7 +136,8 @@ impl Seen {
         Ok(true)
     }
 
-    /// A group: p, q, r, p and q, q and r, all three. On the premises, both ways of grouping three give what all three joined give.
+    /// A group: p, q, r, p and q, q and r, all three. On the premises, both ways of grouping three give what all three joined give. An
+    /// empty record alone holds nothing.
     fn group(&mut self, [p, q, r, pq, qr, pqr]: &[Payload; 6]) -> Result<(), Ends> {
         let joins = [(pq, [p.bytes, q.bytes].concat()), (qr, [q.bytes, r.bytes].concat()), (pqr, [p.bytes, q.bytes, r.bytes].concat())];
         if let Some((x, _)) = joins.iter().find(|(x, bytes)| x.bytes != bytes) {
@@ -130,7 +151,11 @@ impl Seen {
             }
             self.threes += 1;
         }
-        [p, q, r, pq, qr, pqr].iter().try_for_each(|x| self.beams(x.number, x.bodies.iter().map(|b| &b.frame)))
+        let six = [p, q, r, pq, qr, pqr];
+        if let Some(x) = six.iter().find(|x| empty_record(x.bytes) && !x.bodies.is_empty()) {
+            return broken(format!("case {}: a bracket record with an empty body, and nothing else, holds a body alone", x.number));
+        }
+        six.iter().try_for_each(|x| self.beams(x.number, x.bodies.iter().map(|b| &b.frame)))
     }
 
     /// The ceiling of the beam counts of some frames.
@@ -173,11 +198,12 @@ impl Seen {
     }
 
     fn said(&self) -> String {
-        let off: Vec<String> = MISSING.iter().zip(&self.off).map(|(m, [n, otherwise])| format!("{n} {m} ({otherwise} otherwise)")).collect();
+        let off: Vec<String> =
+            MISSING.iter().zip(&self.off).map(|(m, [n, otherwise])| format!("{n} {m} ({otherwise} otherwise)")).collect();
         format!(
-            "pairs on the premises: {}, all split alike ({} with frames in both, {} with an L of 1, {} as traces with {} rows; {} groups of \
-             three either way); off them: {}; frames alike with a payload too short: {} ({} with a frame), frames otherwise with a first \
-             not consumed: {}; most beams: {}",
+            "pairs on the premises: {}, all split alike ({} with frames in both, {} with an L of 1, {} as traces with {} rows; {} groups \
+             of three either way); off them: {}; off them with a first consumed: {} split alike, {} that gain a body; frames alike with a \
+             payload too short: {} ({} with a frame), frames otherwise with a first not consumed: {}; most beams: {}",
             self.pairs,
             self.frames,
             self.ones,
@@ -185,6 +211,8 @@ impl Seen {
             self.rows,
             self.threes,
             off.join(", "),
+            self.alike,
+            self.gained,
             self.short,
             self.short_framed,
             self.frames_otherwise,

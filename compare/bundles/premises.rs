@@ -1,5 +1,6 @@
 //! 02's premises on two payloads that are joined, judged from their bytes alone and as they are worded: "both are longer than 4 bytes and
-//! the first is consumed by good bracket records to its last byte". 01 says what a bracket record is.
+//! the first is consumed by good bracket records to its last byte". 01 says what a bracket record is. And the one payload that holds more
+//! beside another than it does alone.
 
 /// What is left of a payload after the bracket record that it opens with, where that is a good one.
 /// "Each record is 0x5B, a length L, one skipped byte, a body of L - 2 bytes, 0x5D. .. L = 1 with 0x5D after it is passed over without a
@@ -40,6 +41,11 @@ pub fn has_one(payload: &[u8]) -> bool {
 /// "Longer than 4 bytes."
 pub fn long(payload: &[u8]) -> bool {
     payload.len() > 4
+}
+
+/// Whether a payload is a bracket record with an empty body, and nothing else. It has 4 bytes, so that it holds nothing while it is alone.
+pub fn empty_record(payload: &[u8]) -> bool {
+    matches!(payload, [0x5B, 2, _skipped, 0x5D])
 }
 
 /// What two payloads do not meet: one of the premises alone, or several.

@@ -173,7 +173,7 @@ pub fn bundles(cases: &mut Cases, r: &mut Random, most: usize) {
 }
 
 /// Small payloads at which something changes.
-const SMALL: [&[u8]; 28] = [
+const SMALL: [&[u8]; 32] = [
     // a good record, which is the shortest payload on the premises; and two
     &[0x5B, 0x03, 0x00, 0x07, 0x5D],
     &[0x5B, 0x03, 0x00, 0x07, 0x5D, 0x5B, 0x03, 0x00, 0x08, 0x5D],
@@ -209,6 +209,11 @@ const SMALL: [&[u8]; 28] = [
     &[0x07],
     &[0x5D],
     &[0x00, 0x00, 0x00, 0x00, 0x00],
+    // nearly a record in 4 bytes or fewer: another byte for 5B, for 5D, 5B for 5D, an L of 0; last, since the sample has every 13th
+    &[0x5A, 0x02, 0x00, 0x5D],
+    &[0x5B, 0x02, 0x00, 0x00],
+    &[0x5B, 0x02, 0x00, 0x5B],
+    &[0x5B, 0x00, 0x5D],
 ];
 
 /// Every group of three of them.
