@@ -20,6 +20,7 @@ use Rattle.bundles.specs.Bundles.{Consumed, bytesOf, contents, Bundle, e
 use Rattle.bundles.specs.Heard.{Heard, heardWith, heardIn, heardBy, heardBody, heard, isPti}
 use Rattle.bundles.proofs.Split.{short-contents}
 use Rattle.bundles.proofs.Whole.{empty-four, whole-contents}
+use Rattle.bundles.proofs.Grouped.{regrouped}
 
 -- a part of a part
 pub part-of-part : (m n len : ℕ) (x : List ℕ) → m + n ≤ length (take len x) → take n (drop m (take len x)) ≡ take n (drop m x)
@@ -74,12 +75,15 @@ joined-heard p q c =
     ∙ flat-append heardBody (map (bytesOf p) (beside p q)) (map (bytesOf q) (beside q p))
     ∙ rw (beside-heard p q, beside-heard q p) refl
 
--- of any number of payloads
+-- of any number of payloads, of any lengths, however they are grouped
 pub bundled-heard : (ps : List (List ℕ)) → Bundle ps → heard (flatten ps) ≡ flatMap heard ps
 unfolding Bundle flatten flatMap
 bundled-heard [] b = short-heard [] (omega arith)
 bundled-heard (p ∷ []) b = ap heard (append-nil p) ∙ sym (append-nil (heard p))
-bundled-heard (p ∷ (q ∷ ps)) b = joined-heard p (flatten (q ∷ ps)) (b .1) ∙ ap (λ (l : List Heard). heard p ++ l) (bundled-heard (q ∷ ps) (b .2))
+bundled-heard (p ∷ (q ∷ ps)) b = joined-heard p (flatten (q ∷ ps)) (b .0) ∙ ap (λ (l : List Heard). heard p ++ l) (bundled-heard (q ∷ ps) (b .1))
+
+pub rebundled-heard : (groups : List (List (List ℕ))) → Bundle (flatten groups) → heard (flatten (map flatten groups)) ≡ flatMap heard (flatten groups)
+rebundled-heard groups b = ap heard (regrouped groups) ∙ bundled-heard (flatten groups) b
 
 -- how many there are, as `frame_count` says
 pub joined-count : (kind : ℕ) (out : Bool) (p q : List ℕ) → isPti kind ≡ true → Consumed p

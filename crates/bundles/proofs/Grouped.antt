@@ -6,7 +6,7 @@ use mathlib.Core.Path.{_≡_, refl, sym, ap, _∙_}
 use native.Mathlib.Omega.{arith}
 use Rattle.choice.proofs.Flat.{flatten-append}
 use Rattle.bracket.specs.Bracket.{walk, bodiesFrom, bodies}
-use Rattle.bundles.specs.Bundles.{contents, Premises, EitherWay, Bundle}
+use Rattle.bundles.specs.Bundles.{contents, Premises, EitherWay, Bundle, AllLong}
 use Rattle.bundles.proofs.Joined.{joined-consumed, joined, joined-long}
 
 pub either-way : (p q r : List ℕ) → Premises p q → Premises q r → EitherWay p q r
@@ -26,25 +26,25 @@ either-way p q r on on′ =
     right : Premises p (q ++ r)
     right = record { first-long = on .first-long; consumed = on .consumed; second-long = joined-long q r on′ }
 
-bundle-long : (p : List ℕ) (ps : List (List ℕ)) → Bundle (p ∷ ps) → 4 < length (flatten (p ∷ ps))
-unfolding Bundle flatten
-bundle-long p [] b = rw (append-nil p) b
-bundle-long p (q ∷ ps) b = omega (arith, b .0, length-append p (flatten (q ∷ ps)))
-
 -- splitting a bundle gives the bodies of each of its payloads, in order
-pub bundled : (ps : List (List ℕ)) → Bundle ps → contents (flatten ps) ≡ flatMap contents ps
-unfolding Bundle flatten flatMap contents bodiesFrom walk
-bundled [] b = refl
-bundled (p ∷ []) b = ap contents (append-nil p) ∙ sym (append-nil (contents p))
-bundled (p ∷ (q ∷ ps)) b =
-    joined p (flatten (q ∷ ps)) (record { first-long = b .0; consumed = b .1; second-long = bundle-long q ps (b .2) })
-    ∙ ap (λ (l : List (List ℕ)). contents p ++ l) (bundled (q ∷ ps) (b .2))
+bundle-long : (p : List ℕ) (ps : List (List ℕ)) → AllLong (p ∷ ps) → 4 < length (flatten (p ∷ ps))
+unfolding AllLong flatten
+bundle-long p ps l = omega (arith, l .0, length-append p (flatten ps))
+
+pub bundled : (ps : List (List ℕ)) → Bundle ps → AllLong ps → contents (flatten ps) ≡ flatMap contents ps
+unfolding Bundle AllLong flatten flatMap contents bodiesFrom walk
+bundled [] b l = refl
+bundled (p ∷ []) b l = ap contents (append-nil p) ∙ sym (append-nil (contents p))
+bundled (p ∷ (q ∷ ps)) b l =
+    joined p (flatten (q ∷ ps)) (record { first-long = l .0; consumed = b .0; second-long = bundle-long q ps (l .1) })
+    ∙ ap (λ (c : List (List ℕ)). contents p ++ c) (bundled (q ∷ ps) (b .1) (l .1))
 
 -- bundles of bundles are one bundle, however they are grouped
-regrouped : (groups : List (List (List ℕ))) → flatten (map flatten groups) ≡ flatten (flatten groups)
+pub regrouped : (groups : List (List (List ℕ))) → flatten (map flatten groups) ≡ flatten (flatten groups)
 unfolding flatten
 regrouped [] = refl
 regrouped (g ∷ groups) = ap (λ (l : List ℕ). flatten g ++ l) (regrouped groups) ∙ sym (flatten-append g (flatten groups))
 
-pub rebundled : (groups : List (List (List ℕ))) → Bundle (flatten groups) → contents (flatten (map flatten groups)) ≡ flatMap contents (flatten groups)
-rebundled groups b = ap contents (regrouped groups) ∙ bundled (flatten groups) b
+pub rebundled : (groups : List (List (List ℕ))) → Bundle (flatten groups) → AllLong (flatten groups)
+    → contents (flatten (map flatten groups)) ≡ flatMap contents (flatten groups)
+rebundled groups b l = ap contents (regrouped groups) ∙ bundled (flatten groups) b l

@@ -67,11 +67,16 @@ pub record EitherWay (p q r : List ℕ) : Type 0 where
   pub right-kept : contents (p ++ (q ++ r)) ≡ contents p ++ (contents q ++ contents r)
   pub same-places : bodies ((p ++ q) ++ r) ≡ bodies (p ++ (q ++ r))
 
--- any number of payloads, of which the joined one is a bundle (`flatten`): all are longer than 4 bytes, and all but the last are consumed
+-- any number of payloads, of which the joined one is a bundle (`flatten`): all but the last are consumed
 unfoldable pub Bundle : List (List ℕ) → Type 0
 Bundle [] = Unit
-Bundle (p ∷ []) = 4 < length p
-Bundle (p ∷ (q ∷ ps)) = (4 < length p) × Consumed p × Bundle (q ∷ ps)
+Bundle (p ∷ []) = Unit
+Bundle (p ∷ (q ∷ ps)) = Consumed p × Bundle (q ∷ ps)
+
+-- all are longer than 4 bytes
+unfoldable pub AllLong : List (List ℕ) → Type 0
+AllLong [] = Unit
+AllLong (p ∷ ps) = (4 < length p) × AllLong ps
 
 -- What a payload holds beside another. 01: "A payload of 4 bytes or fewer holds nothing"; so does a bracket record with an empty body, 5B 02 x 5D, while it is
 -- alone, and beside other bytes it holds that body. Every other payload holds what it holds alone
