@@ -9,7 +9,7 @@ use Rattle.bracket.specs.Bracket.{steps}
 use Rattle.bracket.proofs.Splitting.{steps-from}
 use Rattle.bundles.specs.Bundles.{bracketOf, Consumed, movedBy, Premises, Kept, KeptPlaces}
 use Rattle.bundles.proofs.Split.{places-kept}
-use Rattle.bundles.proofs.Whole.{four-bytes, alone-beside, kept-there}
+use Rattle.bundles.proofs.Whole.{four-bytes, kept-there}
 
 -- payloads that are consumed to their last byte are so together
 pub joined-consumed : (p q : List ℕ) → Consumed p → Consumed q → Consumed (p ++ q)
@@ -24,8 +24,10 @@ module _ (p q : List ℕ) (on : Premises p q) where
   pub joined-places : KeptPlaces p q
   joined-places =
       kept-there p q (on .consumed)
-      (alone-beside p q (four-bytes p (λ (e : length p ≡ 4). omega (arith, on .first-long))))
-      (alone-beside q p (four-bytes q (λ (e : length q ≡ 4). omega (arith, on .second-long))))
+      (record {
+        first = λ (h : 0 < length q). four-bytes p (λ (e : length p ≡ 4). omega (arith, on .first-long));
+        second = λ (h : 0 < length p). four-bytes q (λ (e : length q ≡ 4). omega (arith, on .second-long));
+      })
 
   pub joined : Kept p q
   joined = places-kept p q joined-places

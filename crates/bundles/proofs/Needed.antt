@@ -1,7 +1,7 @@
 -- 02's premises on joined payloads can be met, and each is needed: small payloads, by computation. Assumes nothing.
 use Prim.Native.Nat.{ℕ, _+_, _<_, _≤_}
 use lib.ListN.{length}
-use mathlib.Core.List.{List, [], _∷_, _++_, flatMap}
+use mathlib.Core.List.{List, [], _∷_, _++_, flatMap, flatten}
 use mathlib.Core.Path.{_≡_, refl, ap, _∙_}
 use native.Mathlib.Decide.{decLe}
 use native.Mathlib.Omega.{arith}
@@ -9,13 +9,14 @@ use Rattle.bracket.specs.Bracket.{good, walk, bodiesFrom}
 use Rattle.layout.specs.Layout.{leAt, kindOf}
 use Rattle.pti.specs.Frame.{partsOf, sidedOf, taggedOf, frameOf}
 use Rattle.rows.specs.Frames.{ptiFrom}
-use Rattle.bundles.specs.Bundles.{bracketOf, Consumed, contents, Premises, Kept}
+use Rattle.bundles.specs.Bundles.{bracketOf, Consumed, contents, Premises, Kept, Bundle, AllLong}
 use Rattle.bundles.specs.Examples.{one, bare, short, cut, bad, beam, framed, single, double}
 use Rattle.bundles.specs.Heard.{heard, heardRows}
 use Rattle.bundles.proofs.Split.{places-kept}
-use Rattle.bundles.proofs.Whole.{four-bytes, alone-beside, kept-there}
+use Rattle.bundles.proofs.Whole.{four-bytes, kept-there}
 use Rattle.bundles.proofs.Joined.{joined}
-use Rattle.bundles.proofs.Frames.{joined-heard}
+use Rattle.bundles.proofs.Grouped.{bundled}
+use Rattle.bundles.proofs.Frames.{joined-heard, bundled-heard}
 use Rattle.bundles.proofs.Rows.{rows-say, joined-rows}
 
 pub one-consumed : Consumed one
@@ -61,7 +62,10 @@ second-long-needed = (omega arith, one-consumed, λ (e : Kept one short). let z 
 -- 5, the least that the premises on their lengths leave.)
 module _ (p q : List ℕ) (c : Consumed p) (otherwise : Kept p q → ⊥) where
   one-of-four : (length p ≡ 4 → ⊥) → (length q ≡ 4 → ⊥) → ⊥
-  one-of-four f s = otherwise (places-kept p q (kept-there p q c (alone-beside p q (four-bytes p f)) (alone-beside q p (four-bytes q s))))
+  one-of-four f s =
+      otherwise
+      (places-kept p q
+      (kept-there p q c (record { first = λ (h : 0 < length q). four-bytes p f; second = λ (h : 0 < length p). four-bytes q s })))
 
   nine : (length p ≡ 4 → 4 < length q) → (length q ≡ 4 → 4 < length p) → 9 ≤ length p + length q
   nine f s = by (decLe 9 (length p + length q))
@@ -89,6 +93,15 @@ pub frames-need-consumed : (4 < length cut) × (4 < length framed) × (heard (cu
 unfolding heard ptiFrom flatMap bodiesFrom walk good frameOf taggedOf sidedOf partsOf
 frames-need-consumed =
     (omega arith, omega arith, λ (e : heard (cut ++ framed) ≡ heard cut ++ heard framed). let z : _≡_ {A = ℕ} 0 1 = ap length e in omega arith)
+
+-- bundles of three: of bodies, with a last that is cut short; of frames, with a payload of 4 bytes among them
+pub bundle-met : contents (flatten (bare ∷ one ∷ cut ∷ [])) ≡ [] ∷ (7 ∷ []) ∷ []
+unfolding Bundle AllLong flatMap contents bodiesFrom walk good
+bundle-met = bundled (bare ∷ one ∷ cut ∷ []) (bare-consumed, (one-consumed, tt)) (omega arith, (omega arith, (omega arith, tt)))
+
+pub bundle-frames : length (heard (flatten (framed ∷ short ∷ framed ∷ []))) ≡ 2
+unfolding Bundle heard ptiFrom flatMap bodiesFrom walk good frameOf taggedOf sidedOf partsOf
+bundle-frames = ap length (bundled-heard (framed ∷ short ∷ framed ∷ []) (framed-consumed, (short-consumed, tt)))
 
 -- rows of records: the one with both payloads has two, which say what those of a record with each say
 pub rows-met : (kinds : List ℕ) → kindOf kinds 0xF5 ≡ 1

@@ -15,7 +15,7 @@ use Rattle.choice.proofs.Choice.{left-true, right-true, either}
 use Rattle.choice.proofs.Flat.{map-same}
 use Rattle.bracket.specs.Bracket.{lengthAt, nextAt, good, Piece, bodyAt, bodiesFrom, bodies}
 use Rattle.bracket.proofs.Walks.{past, is-good, unrolled}
-use Rattle.bundles.specs.Bundles.{bracketOf, Consumed, bytesOf, contents, movedBy, Kept, KeptPlaces, emptyRecord, emptyBody, beside, Whole}
+use Rattle.bundles.specs.Bundles.{bracketOf, Consumed, bytesOf, contents, movedBy, Kept, KeptPlaces, emptyRecord, emptyBody, beside, NoneGains, Whole}
 use Rattle.bundles.proofs.Made.{bracket-size, there-length, there-good, taken-all}
 use Rattle.bundles.proofs.Taken.{innerAt, some, inner-size, one-record}
 use Rattle.bundles.proofs.Split.{short-bodies, first-bytes, moved-bytes, second-bodies, first-bodies}
@@ -53,10 +53,10 @@ unfolding emptyRecord
 four-bytes p h = simp (ne-eqb (length p) 4 h)
 
 -- every other payload holds beside another what it holds alone
-pub alone-beside : (p q : List ℕ) → emptyRecord p ≡ false → beside p q ≡ bodies p
+alone-beside : (p q : List ℕ) → (0 < length q → emptyRecord p ≡ false) → beside p q ≡ bodies p
 unfolding beside
-alone-beside p [] t = refl
-alone-beside p (y ∷ q) t = simp t
+alone-beside p [] h = refl
+alone-beside p (y ∷ q) h = simp (h (omega arith))
 
 -- bracket records in fewer bytes than one takes are none
 no-record : (inners : List (List ℕ)) → length (flatMap bracketOf inners) < 3 → flatMap bracketOf inners ≡ []
@@ -183,7 +183,7 @@ both-parts : (p q : List ℕ) → Consumed p → 0 < length p → 0 < length q �
 both-parts p q c h k = by (decLe (length (p ++ q)) 4)
   where
     same : (x y : List ℕ) → length x < 4 → beside x y ≡ bodies x
-    same x y short = alone-beside x y (four-bytes x (λ (e : length x ≡ 4). omega arith))
+    same x y short = alone-beside x y (λ (h : 0 < length y). four-bytes x (λ (e : length x ≡ 4). omega arith))
 
     by : Dec (length (p ++ q) ≤ 4) → Whole p q
     by (yes short) =
@@ -196,13 +196,13 @@ pub whole : (p q : List ℕ) → Consumed p → Whole p q
 unfolding beside
 whole [] q c =
     sym
-    (rw (alone-beside [] q (four-bytes [] (λ (e : _≡_ {A = ℕ} 0 4). omega arith)), short-bodies [] (omega arith))
+    (rw (alone-beside [] q (λ (h : 0 < length q). four-bytes [] (λ (e : _≡_ {A = ℕ} 0 4). omega arith)), short-bodies [] (omega arith))
     (map-same (movedBy 0) (λ (b : Piece). b) (bodies q) (λ (b : Piece) (m : List·Memᴰ b (bodies q)). ap (λ (k : ℕ). record { at = k; len = b .len }) (zero-add (b .at)))
     ∙ map-id (bodies q)))
 whole (a ∷ p) [] c =
     rw (
       append-nil (a ∷ p),
-      alone-beside [] (a ∷ p) (four-bytes [] (λ (e : _≡_ {A = ℕ} 0 4). omega arith)),
+      alone-beside [] (a ∷ p) (λ (h : 0 < length (a ∷ p)). four-bytes [] (λ (e : _≡_ {A = ℕ} 0 4). omega arith)),
       short-bodies [] (omega arith),
       append-nil (bodies (a ∷ p)),
     )
@@ -222,29 +222,27 @@ whole-contents p q c =
     ∙ map-append (bytesOf (p ++ q)) (beside p q) (map (movedBy (length p)) (beside q p))
     ∙ rw (beside-bytes p q q, moved-bytes p q (beside q p)) refl
 
--- so the bodies of the two are kept where each holds beside the other what it holds alone, and only there
-pub kept-there : (p q : List ℕ) → Consumed p → beside p q ≡ bodies p → beside q p ≡ bodies q → KeptPlaces p q
-kept-there p q c e f = whole p q c ∙ rw (e, f) refl
+-- so the bodies of the two are kept where neither is such a record beside other bytes, and only there
+pub kept-there : (p q : List ℕ) → Consumed p → NoneGains p q → KeptPlaces p q
+kept-there p q c n = whole p q c ∙ rw (alone-beside p q (n .first), alone-beside q p (n .second)) refl
 
-more-beside : (p q : List ℕ) {X : Type 0} → (beside p q ≡ bodies p → X) → (length (beside p q) ≡ length (bodies p) + 1 → X) → X
+more-beside : (p q : List ℕ) {X : Type 0} → ((0 < length q → emptyRecord p ≡ false) → X) → (length (beside p q) ≡ length (bodies p) + 1 → X) → X
 unfolding beside
-more-beside p [] same more = same refl
+more-beside p [] same more = same (λ (h : _<_ 0 0). absurd (omega arith))
 more-beside p (y ∷ q) same more =
     either (emptyRecord p)
-    (λ (t : emptyRecord p ≡ true).
-    more
-    (simp t
-    (sym (ap (λ (l : List Piece). length l + 1) (short-bodies p (omega (arith, empty-four p t)))))))
-    (λ (t : emptyRecord p ≡ false). same (simp t))
+    (λ (t : emptyRecord p ≡ true). more (simp t (sym (ap (λ (l : List Piece). length l + 1) (short-bodies p (omega (arith, empty-four p t)))))))
+    (λ (t : emptyRecord p ≡ false). same (λ (h : 0 < length (y ∷ q)). t))
 
-pub kept-only : (p q : List ℕ) → Consumed p → Kept p q → (beside p q ≡ bodies p) × (beside q p ≡ bodies q)
+pub kept-only : (p q : List ℕ) → Consumed p → Kept p q → NoneGains p q
 unfolding contents
 kept-only p q c kept =
     more-beside p q
-    (λ (e : beside p q ≡ bodies p).
-    more-beside q p (λ (f : beside q p ≡ bodies q). (e, f)) (λ (g : length (beside q p) ≡ length (bodies q) + 1). absurd (omega (arith, counted, ap length e))))
+    (λ (f : 0 < length q → emptyRecord p ≡ false).
+    more-beside q p (λ (s : 0 < length p → emptyRecord q ≡ false). record { first = f; second = s })
+    (λ (g : length (beside q p) ≡ length (bodies q) + 1). absurd (omega (arith, counted, ap length (alone-beside p q f)))))
     (λ (g : length (beside p q) ≡ length (bodies p) + 1).
-    more-beside q p (λ (f : beside q p ≡ bodies q). absurd (omega (arith, counted, ap length f)))
+    more-beside q p (λ (s : 0 < length p → emptyRecord q ≡ false). absurd (omega (arith, counted, ap length (alone-beside q p s))))
     (λ (h : length (beside q p) ≡ length (bodies q) + 1). absurd (omega (arith, counted))))
   where
     number : (x : List ℕ) → length (contents x) ≡ length (bodies x)

@@ -2,7 +2,7 @@
 use Prim.Native.Nat.{ℕ, _+_, _<_}
 use lib.Dec.{eqb}
 use lib.ListN.{length, getD, take, drop}
-use mathlib.Core.Bool.{Bool, _&&_, cond}
+use mathlib.Core.Bool.{Bool, false, _&&_, cond}
 use mathlib.Core.List.{List, [], _∷_, _++_, map, flatMap, List·Memᴰ}
 use mathlib.Core.Path.{_≡_}
 use Rattle.bracket.specs.Bracket.{lengthAt, Piece, walk, bodies}
@@ -89,6 +89,11 @@ emptyBody = record { at = 3; len = 0 }
 unfoldable pub beside : List ℕ → List ℕ → List Piece
 beside p [] = bodies p
 beside p (x ∷ q) = cond (emptyRecord p) (emptyBody ∷ []) (bodies p)
+
+-- neither of two is such a record beside other bytes
+pub record NoneGains (p q : List ℕ) : Type 0 where
+  pub first : 0 < length q → emptyRecord p ≡ false
+  pub second : 0 < length p → emptyRecord q ≡ false
 
 -- all that splitting the joined payload gives, with no premise on the lengths
 abbrev pub Whole : List ℕ → List ℕ → Type 0
