@@ -1,3 +1,1 @@
-pub mod Found
-pub mod Members
-pub mod Orders
+pub mod Chart

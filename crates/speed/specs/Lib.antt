@@ -1,1 +1,2 @@
+pub mod Chart
 pub mod Speed
