@@ -8,6 +8,7 @@ use Rattle.seam.specs.declared.Seam.{Seam}
 use Rattle.seam.specs.declared.Seam.the-variants.{Unbroken, Broken, TraceTooLong, PlaceOutside}
 use Rattle.reader.specs.declared.ZlfRecord.{ZlfRecord}
 use Rattle.rows.specs.declared.Row.{Row}
+use Rattle.speed.specs.Chart.{rowFor}
 use Rattle.text.specs.Texts.{space, decimalText, signedText}
 use Rattle.ticks.specs.Ticks.{unixMillis}
 use Rattle.names.specs.Names.{mpduText}
@@ -70,3 +71,7 @@ marksFields z =
 unfoldable pub recordFields : ZlfRecord → List ℕ
 recordFields z =
     lettered 0x44 (z .offset ∷ z .«raw_ticks» ∷ []) ++ signedField (unixMillis (z .«raw_ticks»)) ++ fieldsOf (marksFields z) ++ (0x0A ∷ [])
+
+-- `C`, a region, and its row of the wall chart
+unfoldable pub chartFields : ℕ → List ℕ
+chartFields region = lineOf 0x43 (region ∷ rowFor region)

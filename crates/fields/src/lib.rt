@@ -4,7 +4,7 @@ use rows::Row;
 use seam::Seam;
 ghost use mathlib.Core.Path.{_≡_};
 ghost use Rattle.text.specs.Put.{Put};
-ghost use Rattle.fields.specs.Fields.{field, signedField, fieldsOf, lettered, lineOf, sideLetter, originFields, radioFields, frameFields, markFields, bitOf, marksFields, recordFields};
+ghost use Rattle.fields.specs.Fields.{field, signedField, fieldsOf, lettered, lineOf, sideLetter, originFields, radioFields, frameFields, markFields, bitOf, marksFields, recordFields, chartFields};
 
 // A space, and a number.
 fn put_field(out: &mut [u8], at: usize, n: u64) -> usize
@@ -154,4 +154,26 @@ pub fn record_fields(out: &mut [u8], at: usize, z: ZlfRecord) -> usize
     let numbers = marks(z);
     let rest = put_fields(out, time, &numbers);
     text::put_byte(out, rest, b'\n')
+}
+
+// `C`, a region, and its speeds on the channels 0 to 3.
+pub fn chart_fields(out: &mut [u8], at: usize, region: u8) -> usize
+    ensures { λ r. ⌜ Put (chartFields region) (now (out .entry)) at (now (out .exit)) r ⌝ }
+{
+    let first = speed::speed_for(0, region);
+    let second = speed::speed_for(1, region);
+    let third = speed::speed_for(2, region);
+    let fourth = speed::speed_for(3, region);
+    put_line(
+        out,
+        at,
+        b'C',
+        &[
+            region as u64,
+            first as u64,
+            second as u64,
+            third as u64,
+            fourth as u64,
+        ],
+    )
 }

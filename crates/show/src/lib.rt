@@ -1,4 +1,5 @@
 // Lines for a person: aligned, and by name.
+use layout::PTI;
 use reader::ZlfRecord;
 use rows::Row;
 use seam::Seam;
@@ -8,7 +9,7 @@ ghost use Prim.Native.Nat.{_-_, _≤_};
 ghost use lib.ListN.{length, replicate};
 ghost use Rattle.text.specs.Put.{Put};
 ghost use Rattle.text.specs.Texts.{space, decimalText, signedText};
-ghost use Rattle.show.specs.Person.{atRight, signs, directionText, heardText, numbersText, frameText, unbrokenText, brokenText, markText, wayText, whenText, heldText, storedText, recordText, countText};
+ghost use Rattle.show.specs.Person.{atRight, signs, directionText, heardText, numbersText, frameText, unbrokenText, brokenText, markText, wayText, whenText, heldText, storedText, recordText, countText, rateText, ratesText, chartText};
 
 // How many digits a number has.
 fn digits(n: u64) -> usize
@@ -204,4 +205,33 @@ pub fn count_line(out: &mut [u8], at: usize, kind: u8, records: u64, frames: u64
     let first = put_right(out, name, 12, records);
     let second = put_right(out, first, 12, frames);
     text::put_byte(out, second, b'\n')
+}
+
+// A space, and the rate of a channel in a region.
+fn put_rate(out: &mut [u8], at: usize, channel: u8, region: u8) -> usize
+    ensures { λ r. ⌜ Put (rateText channel region) (now (out .entry)) at (now (out .exit)) r ⌝ }
+{
+    let next = text::put_byte(out, at, b' ');
+    names::put_speed(out, next, speed::speed_for(channel, region))
+}
+
+// The rates of the channels 0 to 3 in a region.
+fn put_rates(out: &mut [u8], at: usize, region: u8) -> usize
+    ensures { λ r. ⌜ Put (ratesText region) (now (out .entry)) at (now (out .exit)) r ⌝ }
+{
+    let first = put_rate(out, at, 0, region);
+    let second = put_rate(out, first, 1, region);
+    let third = put_rate(out, second, 2, region);
+    put_rate(out, third, 3, region)
+}
+
+// The line for a region of the wall chart: its number and its name in PTI records, and the rates of the channels 0 to 3.
+pub fn chart_line(out: &mut [u8], at: usize, region: u8) -> usize
+    ensures { λ r. ⌜ Put (chartText region) (now (out .entry)) at (now (out .exit)) r ⌝ }
+{
+    let number = put_right(out, at, 6, region as u64);
+    let spaces = text::put_text(out, number, b"  ");
+    let name = names::put_region(out, spaces, PTI, region);
+    let rates = put_rates(out, name, region);
+    text::put_byte(out, rates, b'\n')
 }
