@@ -1,2 +1,3 @@
-pub mod Totals
+pub mod Chart
 pub mod Facts
+pub mod Totals

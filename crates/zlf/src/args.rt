@@ -15,6 +15,8 @@ pub const SEEK: u8 = 5;
 
 pub const RECORDS: u8 = 6;
 
+pub const SPEEDS: u8 = 7;
+
 // The options. Another word is 0.
 const FROM: u8 = 1;
 
@@ -71,6 +73,9 @@ pub fn command_of(word: &[u8]) -> u8 {
     if check::same(word, b"help") | check::same(word, b"--help") {
         return HELP;
     }
+    if check::same(word, b"speeds") {
+        return SPEEDS;
+    }
     walk_command(word)
 }
 
@@ -91,7 +96,7 @@ fn part_option(word: &[u8]) -> u8 {
     0
 }
 
-// The options that every command has.
+// The options that every command has, but for those on a trace where there is none.
 fn common_option(word: &[u8]) -> u8 {
     if check::same(word, b"--kinds") {
         return KINDS;
@@ -118,7 +123,10 @@ fn takes(command: u8, option: u8) -> bool {
     if (option == AT) | (option == PAGES) {
         return command == LIST;
     }
-    (option == KINDS) | (option == VERSION) | (option == PLAIN)
+    if (option == KINDS) | (option == VERSION) {
+        return command != SPEEDS;
+    }
+    option == PLAIN
 }
 
 // Whether a word is meant as an option. A negative number is none.
@@ -177,10 +185,10 @@ fn optioned(c: Call, word: &[u8]) -> Call {
     d
 }
 
-// A word that is no option is at a place: the file first, and then what `check` and `seek` take.
+// A word that is no option is at a place: the file first, and then what `check` and `seek` take. `speeds` takes none.
 fn named(c: Call, word: &[u8], i: usize) -> Call {
     let mut d = c;
-    if c.file == 0 {
+    if (c.file == 0) & (c.command != SPEEDS) {
         d.file = i;
         return d;
     }
@@ -255,7 +263,7 @@ fn lacking(c: Call) -> usize {
     if c.taking != 0 {
         return 1;
     }
-    if c.command == HELP {
+    if (c.command == HELP) | (c.command == SPEEDS) {
         return 0;
     }
     if c.file == 0 {

@@ -14,11 +14,13 @@ fn general() {
   zlf info FILE                                                      size, version, header sum, span, records and frames
   zlf seek FILE TIME                                                 the first record at a time or later
   zlf records FILE [--from PLACE] [--count N]                        records as the sequential reader gives them
+  zlf speeds                                                         the wall chart: the bit rate of each region and channel
   zlf help [COMMAND]                                                 this page, or more on a command
 
 A TIME is 2024-05-01T12:34:56.789Z, 2024-05-01T12:34:56Z, 2024-05-01 or milliseconds since 1970, in UTC. A PLACE is an offset in bytes.
 Each command but help also takes
   --plain          bare fields for scripts
+and each that reads a FILE
   --kinds FILE     another kind table: 256 bytes, one for each end byte
   --version N      another version than 104
 It ends with 0 where the answer is good, 1 where the trace is broken or nothing is found, 2 on a refusal or a bad call.
@@ -98,6 +100,20 @@ With --plain: D place ticks milliseconds outgoing session end-byte kind payload-
     );
 }
 
+fn on_speeds() {
+    io::write_all(
+        STDOUT_FILENO,
+        b"zlf speeds
+
+The wall chart: the bit rate that a PTI frame has by its region, 0 to 31 down, and its channel, 0 to 3 across; a PTI record does not carry
+it. Regions have the names that a list shows for PTI records, ? where there is none. Where no rate is drawn it is 9.6k, as it is for every
+other region and channel.
+
+With --plain: C region speed speed speed speed, for the channels 0 to 3: 0 is 9.6k, 1 is 40k, 2 is 100k, 3 is Long Range
+",
+    );
+}
+
 // The page on a command that an argument names.
 fn page(command: u8) -> bool {
     if command == args::LIST {
@@ -118,6 +134,10 @@ fn page(command: u8) -> bool {
     }
     if command == args::RECORDS {
         on_records();
+        return true;
+    }
+    if command == args::SPEEDS {
+        on_speeds();
         return true;
     }
     false

@@ -1,6 +1,6 @@
-// The command that a reviewer runs on a real trace: pages of frames with their mark, the seam check, what a trace holds, seeks, and the
-// sequential reader's records. `zlf help` says how it is called. It writes its status, 0 to 2, as a digit to descriptor 3: the command
-// at the root of the repository ends with it.
+// The command that a reviewer runs on a real trace: pages of frames with their mark, the seam check, what a trace holds, seeks, the
+// sequential reader's records; and the chart of speeds. `zlf help` says how it is called. It writes its status, 0 to 2, as a digit to
+// descriptor 3: the command at the root of the repository ends with it.
 mod answer;
 mod args;
 mod asked;
@@ -14,6 +14,7 @@ mod marks;
 mod out;
 mod records;
 mod refuse;
+mod speeds;
 
 use args::Call;
 
@@ -39,6 +40,9 @@ fn status() -> u8 {
     }
     if c.command == args::HELP {
         return help::help(c.file);
+    }
+    if c.command == args::SPEEDS {
+        return speeds::speeds(c.plain);
     }
     traced(c)
 }
