@@ -71,6 +71,8 @@ const INPUTS: &[Input] = &[
     input("parser, 1 MiB of noise", || traces::repeated("noise", MIB), 0, parser::rust, parser::port),
     input("seam check, 100 MiB", || traces::of(Kind::Ordinary, 100 * MIB), 0, seam::rust, seam::port),
     input("plain seek, 100 MiB", || traces::of(Kind::Ordinary, 100 * MIB), 0, plain::rust, plain::port),
+    input("speeds, all pairs once", Vec::new, 0, speeds::rust, speeds::port),
+    input("speeds, the grid 512 times", Vec::new, 512, speeds::rust, speeds::port),
 ];
 
 fn found(offset: Option<u64>) -> u64 {
@@ -379,6 +381,32 @@ mod plain {
         let (trace, target) = (black_box(trace), black_box(LATE));
         let a = unsafe { sys::zlf_plain_seek(KINDS.as_ptr(), trace.as_ptr(), trace.len(), target) };
         [found(a.is_found.then_some(a.offset as u64)), 0, 0]
+    }
+}
+
+/// The speeds of all 65,536 pairs of a channel and a region once, or of the grid's 128 pairs so many times: how often each rate but 9.6k is given.
+mod speeds {
+    use super::*;
+
+    fn given(times: u64, speed_for: impl Fn(u8, u8) -> u8) -> Answer {
+        let (turns, channels, regions) = if times == 0 { (1, 255, 255) } else { (times, 3, 31) };
+        let mut rates = [0; 4];
+        for _ in 0..turns {
+            for channel in 0..=channels {
+                for region in 0..=regions {
+                    rates[speed_for(black_box(channel), black_box(region)) as usize] += 1;
+                }
+            }
+        }
+        [rates[1], rates[2], rates[3]]
+    }
+
+    pub fn rust(_: &[u8], times: u64) -> Answer {
+        given(times, zniff_core::pti::speed_for)
+    }
+
+    pub fn port(_: &[u8], times: u64) -> Answer {
+        given(times, |channel, region| unsafe { sys::zlf_speed(channel, region) })
     }
 }
 
