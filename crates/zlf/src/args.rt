@@ -96,7 +96,7 @@ fn part_option(word: &[u8]) -> u8 {
     0
 }
 
-// The options that every command has, but for those on a trace where there is none.
+// The other options; `takes` says which command has them.
 fn common_option(word: &[u8]) -> u8 {
     if check::same(word, b"--kinds") {
         return KINDS;

@@ -14,7 +14,7 @@ fn general() {
   zlf info FILE                                                      size, version, header sum, span, records and frames
   zlf seek FILE TIME                                                 the first record at a time or later
   zlf records FILE [--from PLACE] [--count N]                        records as the sequential reader gives them
-  zlf speeds                                                         the wall chart: the bit rate of each region and channel
+  zlf speeds                                                         the bit rate of each region and channel, as on the wall chart
   zlf help [COMMAND]                                                 this page, or more on a command
 
 A TIME is 2024-05-01T12:34:56.789Z, 2024-05-01T12:34:56Z, 2024-05-01 or milliseconds since 1970, in UTC. A PLACE is an offset in bytes.
@@ -105,9 +105,10 @@ fn on_speeds() {
         STDOUT_FILENO,
         b"zlf speeds
 
-The wall chart: the bit rate that a PTI frame has by its region, 0 to 31 down, and its channel, 0 to 3 across; a PTI record does not carry
-it. Regions have the names that a list shows for PTI records, ? where there is none. Where no rate is drawn it is 9.6k, as it is for every
-other region and channel.
+The bit rate of a PTI frame by its region, 0 to 31 down, and its channel, 0 to 3 across, to be held beside the wall chart: a PTI record does
+not carry it. LR is Long Range. 9.6k also stands where the wall chart is empty, and is the answer for every other region and channel.
+Names are those that zlf list shows for PTI records, ? where there is none. A PTI frame gives its region in four bits, so none in a trace is
+above 15.
 
 With --plain: C region speed speed speed speed, for the channels 0 to 3: 0 is 9.6k, 1 is 40k, 2 is 100k, 3 is Long Range
 ",

@@ -4,7 +4,7 @@ use crate::out;
 ghost use Rattle.text.specs.Put.{Put};
 ghost use Rattle.zlf.specs.Chart.{regionLine, linesBelow};
 
-// The regions of the chart.
+// How many regions the chart has.
 const REGIONS: u8 = 32;
 
 // The line for a region.
@@ -43,7 +43,7 @@ pub fn speeds(plain: bool) -> u8 {
     let end = facts::put_heading(
         &mut room,
         bottom,
-        b"where no rate is drawn, and for every other region and channel: 9.6k\n",
+        b"9.6k is also the answer where the wall chart is empty, and for every other region and channel\n",
         plain,
     );
     out::finish(&room, end, 0)

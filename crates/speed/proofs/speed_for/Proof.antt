@@ -1,4 +1,4 @@
--- `speed::speed_for` meets its contract: a cell of the region's row, and nothing beside the chart. Assumes nothing.
+-- `speed::speed_for` meets its contract: a cell of the region's row, and 0 beside the chart. Assumes nothing.
 use borrow.Author.Needs.{needs}
 use Rattle.speed.proofs.Chart.{cell, beside}
 use Rattle.speed.proofs.speed_for.Statement.{statement}
