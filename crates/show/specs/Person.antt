@@ -9,7 +9,7 @@ use Rattle.seam.specs.declared.Seam.{Seam}
 use Rattle.seam.specs.declared.Seam.the-variants.{Unbroken, Broken, TraceTooLong, PlaceOutside}
 use Rattle.reader.specs.declared.ZlfRecord.{ZlfRecord}
 use Rattle.rows.specs.declared.Row.{Row}
-use Rattle.speed.specs.Speed.{speedFor}
+use Rattle.speed.specs.Chart.{rowFor}
 use Rattle.text.specs.Texts.{space, decimalText, signedText, hexText}
 use Rattle.ticks.specs.Ticks.{unixMillis}
 use Rattle.names.specs.Names.{timeText, regionText, speedText, kindText, mpduText}
@@ -84,14 +84,15 @@ unfoldable pub countText : ℕ → ℕ → ℕ → List ℕ
 countText kind records frames =
     (space ∷ space ∷ []) ++ kindText kind ++ atRight 12 (decimalText records) ++ atRight 12 (decimalText frames) ++ (0x0A ∷ [])
 
--- a space, and the rate of a channel in a region
-unfoldable pub rateText : ℕ → ℕ → List ℕ
-rateText channel region = (space ∷ []) ++ speedText (speedFor channel region)
+-- a space, and a speed's name
+unfoldable pub rateText : ℕ → List ℕ
+rateText speed = (space ∷ []) ++ speedText speed
 
--- the rates of the channels 0 to 3
-unfoldable pub ratesText : ℕ → List ℕ
-ratesText region = rateText 0 region ++ rateText 1 region ++ rateText 2 region ++ rateText 3 region
+-- the same for each of some speeds
+unfoldable pub ratesText : List ℕ → List ℕ
+ratesText [] = []
+ratesText (speed ∷ speeds) = rateText speed ++ ratesText speeds
 
--- a region of the wall chart: its number, its name in PTI records, which are of kind 1, and its rates
+-- a region of the wall chart: its number, its name in PTI records, which are of kind 1, and its row of speeds
 unfoldable pub chartText : ℕ → List ℕ
-chartText region = atRight 6 (decimalText region) ++ (space ∷ space ∷ []) ++ regionText 1 region ++ ratesText region ++ (0x0A ∷ [])
+chartText region = atRight 6 (decimalText region) ++ (space ∷ space ∷ []) ++ regionText 1 region ++ ratesText (rowFor region) ++ (0x0A ∷ [])

@@ -7,6 +7,7 @@ ghost use mathlib.Core.List.{_++_};
 ghost use mathlib.Core.Path.{_≡_};
 ghost use Prim.Native.Nat.{_-_, _≤_};
 ghost use lib.ListN.{length, replicate};
+ghost use Rattle.speed.specs.Chart.{rowFor};
 ghost use Rattle.text.specs.Put.{Put};
 ghost use Rattle.text.specs.Texts.{space, decimalText, signedText};
 ghost use Rattle.show.specs.Person.{atRight, signs, directionText, heardText, numbersText, frameText, unbrokenText, brokenText, markText, wayText, whenText, heldText, storedText, recordText, countText, rateText, ratesText, chartText};
@@ -207,22 +208,22 @@ pub fn count_line(out: &mut [u8], at: usize, kind: u8, records: u64, frames: u64
     text::put_byte(out, second, b'\n')
 }
 
-// A space, and the rate of a channel in a region.
-fn put_rate(out: &mut [u8], at: usize, channel: u8, region: u8) -> usize
-    ensures { λ r. ⌜ Put (rateText channel region) (now (out .entry)) at (now (out .exit)) r ⌝ }
+// A space, and a speed's name.
+fn put_rate(out: &mut [u8], at: usize, speed: u8) -> usize
+    ensures { λ r. ⌜ Put (rateText speed) (now (out .entry)) at (now (out .exit)) r ⌝ }
 {
     let next = text::put_byte(out, at, b' ');
-    names::put_speed(out, next, speed::speed_for(channel, region))
+    names::put_speed(out, next, speed)
 }
 
-// The rates of the channels 0 to 3 in a region.
+// The same for the channels 0 to 3 in a region.
 fn put_rates(out: &mut [u8], at: usize, region: u8) -> usize
-    ensures { λ r. ⌜ Put (ratesText region) (now (out .entry)) at (now (out .exit)) r ⌝ }
+    ensures { λ r. ⌜ Put (ratesText (rowFor region)) (now (out .entry)) at (now (out .exit)) r ⌝ }
 {
-    let first = put_rate(out, at, 0, region);
-    let second = put_rate(out, first, 1, region);
-    let third = put_rate(out, second, 2, region);
-    put_rate(out, third, 3, region)
+    let first = put_rate(out, at, speed::speed_for(0, region));
+    let second = put_rate(out, first, speed::speed_for(1, region));
+    let third = put_rate(out, second, speed::speed_for(2, region));
+    put_rate(out, third, speed::speed_for(3, region))
 }
 
 // The line for a region of the wall chart: its number and its name in PTI records, and the rates of the channels 0 to 3.

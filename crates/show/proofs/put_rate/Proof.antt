@@ -1,7 +1,5 @@
 -- `show::put_rate` meets its contract: one text after the other. Assumes nothing.
-use mathlib.Core.Path.{ap}
-use Rattle.text.proofs.Puts.{joined, renamed}
-use Rattle.names.specs.Names.{speedText}
+use Rattle.text.proofs.Puts.{joined}
 use Rattle.show.specs.Person.{rateText}
 use borrow.Author.Needs.{needs}
 use Rattle.show.proofs.put_rate.Statement.{statement}
@@ -9,9 +7,6 @@ use Rattle.show.proofs.put_rate.Tie as tie
 
 put-byte-requires : tie.Need-put-byte-requires
 put-byte-requires c κs = search needs
-
-speed-for-requires : tie.Need-speed-for-requires
-speed-for-requires c κs = search needs
 
 put-speed-requires : tie.Need-put-speed-requires
 put-speed-requires c κs = search needs
@@ -21,7 +16,7 @@ same-length c = search needs
 
 returns : tie.Need-returns
 unfolding rateText
-returns c = joined (c .before .before .before .before .before .before .before .put-byte .ensures) (renamed (ap speedText (c .before .before .before .speed-for .ensures)) (c .before .before .put-speed .ensures))
+returns c = joined (c .before .before .before .before .before .before .put-byte .ensures) (c .before .before .put-speed .ensures)
 
 pub put-rate-spec : {M : Type 1} → statement M
-put-rate-spec = tie.close (tie.spec put-byte-requires speed-for-requires put-speed-requires same-length returns)
+put-rate-spec = tie.close (tie.spec put-byte-requires put-speed-requires same-length returns)
