@@ -1,6 +1,4 @@
-# shellcheck shell=bash
 # programs.sh: how the commands and the tests build and run the proved programs. It is sourced; `top` is the repository's folder.
-top=${top:?}
 
 # Has rt prove and build a program where it is not built, or a file of the crates is newer. COMMAND is the name that messages begin with.
 built() { # COMMAND CRATE
@@ -29,22 +27,4 @@ program() { # CRATE [STACK]
     elif [ -n "${2:-}" ]; then
         ulimit -s unlimited 2>/dev/null || ulimit -s $(($2 / 1024)) 2>/dev/null || ulimit -s "$(ulimit -H -s)"
     fi
-}
-
-# Has rt try must-fail edits of the crates that are named, and of no other crate below them: on a copy of the crates, below target/, where
-# rt takes no file for one of ours. It has the repository's own target folder, so that what is proved there counts as proved.
-# FOLDER is must-fail, for those of the gate, or must-fail/more. What it prints and its status are rt's.
-edits_of() { # FOLDER CRATE..
-    local folder=$1 work=$top/target/edits name
-    shift
-    rm -rf "$work"
-    mkdir -p "$work"
-    cp -R "$top/crates" "$top/crates.txt" "$work" || return 2
-    ln -s "$top/target" "$work/target"
-    for name in "$@"; do # a crate may be named twice
-        [ -d "$work/crates/$name/tried" ] || mv "$work/crates/$name/$folder" "$work/crates/$name/tried" || return 2
-    done
-    rm -rf "$work"/crates/*/must-fail
-    for name in "$@"; do [ ! -d "$work/crates/$name/tried" ] || mv "$work/crates/$name/tried" "$work/crates/$name/must-fail"; done
-    (cd "$work" && rt must-fail "$@")
 }

@@ -20,17 +20,17 @@ for file in lib.rs trace.rs zlf/mod.rs; do
     cp "$here/stand-ins/core/$file" "$out/tree/$file"
 done
 stand_in() { # NAME TYPE
-    "$rustc" --edition 2021 --crate-type "$2" --crate-name "$1" "$here/stand-ins/$1.rs" -O -C overflow-checks="$checks" --out-dir "$out"
+    "$rustc" --edition 2021 --crate-type "$2" --crate-name "$1" "$here/stand-ins/$1.rs" -O -C overflow-checks=$checks --out-dir "$out"
 }
 program() { # NAME
-    "$rustc" --edition 2024 --crate-name "$1" "$here/$1/main.rs" -C opt-level=3 -C overflow-checks="$checks" -L "$out" \
+    "$rustc" --edition 2024 --crate-name "$1" "$here/$1/main.rs" -C opt-level=3 -C overflow-checks=$checks -L "$out" \
         --extern zniff_core="$out/libzniff_core.rlib" --extern crc16="$out/libcrc16.rlib" -o "$out/$1"
 }
 stand_in serde proc-macro
 stand_in thiserror proc-macro
 stand_in crc16 rlib
 # warnings about docs/src are not ours to mend
-"$rustc" --edition 2024 --crate-type rlib --crate-name zniff_core "$out/tree/lib.rs" -C opt-level=3 -C overflow-checks="$checks" \
+"$rustc" --edition 2024 --crate-type rlib --crate-name zniff_core "$out/tree/lib.rs" -C opt-level=3 -C overflow-checks=$checks \
     --cap-lints allow --out-dir "$out" -L "$out" --extern crc16="$out/libcrc16.rlib" \
     --extern serde="$(echo "$out"/libserde.*)" --extern thiserror="$(echo "$out"/libthiserror.*)"
 for name in ${PROGRAMS-oracle cases bundles}; do program "$name"; done

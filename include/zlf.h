@@ -169,13 +169,6 @@ struct zlf_seam_answer {
     size_t records; /* how many valid records come before it, or before the trace's end */
 };
 
-/* What a trace holds: refusals 1 and, under 2,048 bytes, 6, in the mark; then the counts are 0. */
-struct zlf_totals_answer {
-    struct zlf_seam_answer mark; /* the seam check's answer from 2,048 */
-    uint64_t records[5];         /* by kind: the valid records that follow one another from 2,048 on */
-    uint64_t frames[5];          /* by kind: their frames */
-};
-
 /* One body's frame. It has no refusal: the body is no trace. */
 struct zlf_frame_answer {
     bool is_frame;
@@ -262,14 +255,6 @@ struct zlf_page_answer zlf_page(const uint8_t *kinds, const uint8_t *trace, size
 
 /* Whether valid records follow one another from a place to the trace's end, and how many. */
 struct zlf_seam_answer zlf_seam(const uint8_t *kinds, const uint8_t *trace, size_t len, size_t place);
-
-/* How many records and frames of each kind a trace holds, up to the first place without a valid record, and its mark. */
-struct zlf_totals_answer zlf_totals(const uint8_t *kinds, const uint8_t *trace, size_t len);
-
-/* The mark of a later page: what zlf_seam says from a place, by what it said from an earlier one, of which only the records between are
- * read. With that answer, or with a refusal, it is zlf_seam's own answer, which is proved. For any other mark: where the records from `from`
- * lead to the place, and the mark has so many, it is the mark with so many less, and otherwise zlf_seam's answer. Refusals 1, 6. */
-struct zlf_seam_answer zlf_later_mark(const uint8_t *kinds, const uint8_t *trace, size_t len, size_t from, struct zlf_seam_answer mark, size_t place);
 
 /* The frame in the body of a bracket record. */
 struct zlf_frame_answer zlf_frame(const uint8_t *body, size_t len);

@@ -1,4 +1,3 @@
-# shellcheck shell=bash
 # Traces and inputs of trace-list, in hexadecimal: sourced by samples/make, samples/premises and tests/trace-list.
 
 # a number in so many bytes, low byte first
@@ -53,12 +52,12 @@ bracket() { # BODY
 
 # a PTI body of version 2: ten zeros, then the start tag; the radio part; the end tag, RSSI, region, channel, protocol 6 and one more
 received() { # RSSI REGION CHANNEL RADIO
-    bracket "02$(times 10 00)F8$4F9$1$2${3}0600"
+    bracket "02$(times 10 00)F8$4F9$1$2$30600"
 }
 
 # the same without RSSI
 sent() { # REGION CHANNEL RADIO
-    bracket "02$(times 10 00)FC$3FD$1${2}0600"
+    bracket "02$(times 10 00)FC$3FD$1$20600"
 }
 
 # a Zniffer frame: timestamp 0, channel and speed, region, RSSI, data
@@ -72,8 +71,7 @@ zniffer() { # CHANNEL-AND-SPEED REGION RSSI DATA
 bytes() { # HEX
     local s=$1 at
     for ((at = 0; at < ${#s}; at += 2000)); do
-        # shellcheck disable=SC2001 # what is found stands in what takes its place, which bash has only from 5.2 on
-        printf '%b' "$(sed 's/../\\x&/g' <<<"${s:at:2000}")"
+        printf "$(sed 's/../\\x&/g' <<<"${s:at:2000}")"
     done
 }
 

@@ -14,7 +14,6 @@ _Static_assert(sizeof(struct zlf_next_record) == 72, "zlf_next_record");
 _Static_assert(sizeof(struct zlf_record_answer) == 64, "zlf_record_answer");
 _Static_assert(sizeof(struct zlf_plain_answer) == 16, "zlf_plain_answer");
 _Static_assert(sizeof(struct zlf_row) == 56, "zlf_row");
-_Static_assert(sizeof(struct zlf_totals_answer) == 104, "zlf_totals_answer");
 _Static_assert(sizeof(struct zlf_parser) == 268, "zlf_parser");
 _Static_assert(sizeof(struct zlf_parsed) == 280, "zlf_parsed");
 
@@ -155,43 +154,6 @@ static void pages(void) {
     IS(s.refusal, 0), IS(s.is_unbroken, 0), IS(s.place, 2162), IS(s.records, 2);
 }
 
-/* a trace's totals with a mark, and records and frames of PTI alone */
-static void totalled(struct zlf_totals_answer t, struct zlf_seam_answer mark, int records) {
-    IS(t.mark.refusal, mark.refusal), IS(t.mark.is_unbroken, mark.is_unbroken), IS(t.mark.place, mark.place), IS(t.mark.records, mark.records);
-    for (int i = 0; i < 5; i++) IS(t.records[i], i == 1 ? records : 0), IS(t.frames[i], i == 1 ? records : 0);
-}
-
-static void marked(struct zlf_seam_answer s, int is_unbroken, int place, int number) {
-    IS(s.refusal, 0), IS(s.is_unbroken, is_unbroken), IS(s.place, place), IS(s.records, number);
-}
-
-static void totals(void) {
-    struct zlf_seam_answer whole = zlf_seam(kinds, trace, length, 2048), broken = zlf_seam(kinds, trace, length + 20, 2048);
-    struct zlf_seam_answer refused = {6, false, 0, 0}, other = {0, false, 7, 9};
-    totalled(zlf_totals(kinds, trace, length), whole, 3);
-    totalled(zlf_totals(kinds, trace, length + 20), broken, 3);
-    totalled(zlf_totals(kinds, trace, 2048), zlf_seam(kinds, trace, 2048, 2048), 0);
-    totalled(zlf_totals(kinds, trace, 2047), refused, 0);
-    /* a payload of no frames: a record more than there are frames */
-    trace[2086 + 13 + 21] ^= 1;
-    struct zlf_totals_answer t = zlf_totals(kinds, trace, length);
-    IS(t.records[1], 3), IS(t.frames[1], 2);
-    trace[2086 + 13 + 21] ^= 1;
-    marked(zlf_later_mark(kinds, trace, length, 2048, whole, 2048), 1, 0, 3);
-    marked(zlf_later_mark(kinds, trace, length, 2048, whole, 2124), 1, 0, 1);
-    marked(zlf_later_mark(kinds, trace, length, 2048, whole, length), 1, 0, 0);
-    marked(zlf_later_mark(kinds, trace, length + 20, 2048, broken, 2086), 0, 2162, 2);
-    /* anew: a refusal, and a place that the records do not lead to */
-    marked(zlf_later_mark(kinds, trace, length, 0, refused, 2086), 1, 0, 2);
-    marked(zlf_later_mark(kinds, trace, length, 2048, whole, 2087), 0, 2087, 0);
-    marked(zlf_later_mark(kinds, trace, length, 2086, whole, 2048), 1, 0, 3);
-    /* any other mark: less, and anew where it has too few */
-    marked(zlf_later_mark(kinds, trace, length, 2048, other, 2124), 0, 7, 7);
-    other.records = 1;
-    marked(zlf_later_mark(kinds, trace, length, 2048, other, 2124), 1, 0, 1);
-    IS(zlf_later_mark(kinds, trace, length, 2047, other, 2047).refusal, 6), IS(zlf_later_mark(kinds, trace, length, 2048, whole, length + 1).refusal, 6);
-}
-
 static void leaves(void) {
     struct zlf_frame_answer f = zlf_frame(trace + 2099 + 3, 20);
     IS(f.is_frame, 1), IS(f.direction, 0), IS(f.region, 2), IS(f.channel, 1), IS(f.speed, 1), IS(f.rssi, -61), IS(f.beam_count, 0), IS(f.mpdu, 12), IS(f.mpdu_len, 2);
@@ -241,7 +203,6 @@ static void refused(const uint8_t *bytes, size_t n, int number) {
 static void bad_calls(void) {
     /* no bytes, by a null pointer */
     IS(zlf_open(0, 0, 7).refusal, 2), IS(zlf_open_sequence(0, 0, 7).refusal, 2), IS(zlf_seam(kinds, 0, 0, 0).refusal, 6), IS(zlf_frame(0, 0).is_frame, 0);
-    IS(zlf_totals(kinds, 0, 0).mark.refusal, 6), IS(zlf_later_mark(kinds, 0, 0, 0, zlf_seam(kinds, 0, 0, 0), 0).refusal, 6);
     refused(0, 0, 0);
     IS(zlf_page(kinds, 0, 0, 2048, 1, 0, 0).start, 2048), IS(zlf_page(kinds, 0, 0, 2048, 1, 0, 0).is_more, 0);
     /* a table of no rows: enough for none, and not for one */
@@ -251,10 +212,6 @@ static void bad_calls(void) {
     const uint8_t *zeros = calloc(limit + 1, 1);
     refused(zeros, limit + 1, 1);
     IS(zlf_open(zeros, limit + 1, 0).refusal, 1), IS(zlf_open_sequence(zeros, limit + 1, 0).refusal, 1), IS(zlf_seam(kinds, zeros, limit + 1, 2048).refusal, 1);
-    struct zlf_seam_answer none = {0, true, 0, 0}, too_long = {1, false, 0, 0};
-    totalled(zlf_totals(kinds, zeros, limit + 1), too_long, 0);
-    IS(zlf_later_mark(kinds, zeros, limit + 1, 2048, none, 2048).refusal, 1);
-    totalled(zlf_totals(kinds, zeros, limit), zlf_seam(kinds, zeros, limit, 2048), 0);
     IS(zlf_open(zeros, limit, 0).refusal, 0), IS(zlf_seam(kinds, zeros, limit, 2048).refusal, 0), IS(zlf_seam(kinds, zeros, limit, 2048).place, 2048);
     IS(zlf_plain_seek(kinds, zeros, limit, 0).refusal, 0), IS(zlf_plain_seek(kinds, zeros, limit, 0).is_found, 0);
     /* a window past the last offset */
@@ -278,7 +235,6 @@ int main(void) {
     records();
     plain();
     pages();
-    totals();
     leaves();
     bad_calls();
     printf("%d passed, %d failed\n", passed, failed);

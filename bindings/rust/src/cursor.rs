@@ -1,7 +1,7 @@
 //! Reading a window of frames out of a trace, without decoding the rest.
 use crate::pti::{Direction, PtiFrame};
 use crate::resync::{self, DEFAULT_WINDOW};
-use crate::sys::{self, zlf_row, zlf_seam_answer, zlf_state};
+use crate::sys::{self, zlf_row, zlf_state};
 use crate::zlf::{ZLF_HEADER_SIZE, ZLF_VERSION};
 use crate::{Refusal, Trace};
 
@@ -59,32 +59,6 @@ pub enum Seam {
     Unbroken { records: u64 },
     /// The first offset without a valid record, and the number of records before it.
     Broken { place: u64, records: u64 },
-}
-
-impl Seam {
-    fn of(a: zlf_seam_answer) -> Result<Self, Refusal> {
-        Refusal::of(a.refusal, 0)?;
-        let (place, records) = (a.place as u64, a.records as u64);
-        Ok(if a.is_unbroken { Seam::Unbroken { records } } else { Seam::Broken { place, records } })
-    }
-
-    fn numbers(self) -> zlf_seam_answer {
-        let (is_unbroken, place, records) = match self {
-            Seam::Unbroken { records } => (true, 0, records),
-            Seam::Broken { place, records } => (false, place, records),
-        };
-        zlf_seam_answer { refusal: 0, is_unbroken, place: place as usize, records: records as usize }
-    }
-}
-
-/// What a trace holds: the valid records that follow one another from the header's end on, and their frames, by kind (0 unknown, 1 PTI,
-/// 2 PTI diagnostic, 3 Zniffer, 4 another known type).
-#[derive(Debug, Clone, Copy, PartialEq, Eq)]
-pub struct Totals {
-    /// The seam check's answer from the header's end.
-    pub mark: Seam,
-    pub records: [u64; 5],
-    pub frames: [u64; 5],
 }
 
 /// A frame with its time, and the time since the frame before it in its window.
@@ -195,23 +169,10 @@ impl<'a> TraceCursor<'a> {
     /// Whether valid records follow one another from a place to the trace's end.
     pub fn seam(&self, place: u64) -> Result<Seam, Refusal> {
         let Trace { bytes, kinds } = self.trace;
-        Seam::of(unsafe { sys::zlf_seam(kinds.as_ptr(), bytes.as_ptr(), bytes.len(), place as usize) })
-    }
-
-    /// What [`Self::seam`] says from a place, where `mark` is what it said from an earlier one: only the records between are read.
-    ///
-    /// For a mark that it did not give: where the records from `from` lead to the place, and the mark has so many, the mark with so many
-    /// less; and otherwise what it says.
-    pub fn later_mark(&self, from: u64, mark: Seam, place: u64) -> Result<Seam, Refusal> {
-        let Trace { bytes, kinds } = self.trace;
-        Seam::of(unsafe { sys::zlf_later_mark(kinds.as_ptr(), bytes.as_ptr(), bytes.len(), from as usize, mark.numbers(), place as usize) })
-    }
-
-    /// What the trace holds, by kind.
-    pub fn totals(&self) -> Result<Totals, Refusal> {
-        let Trace { bytes, kinds } = self.trace;
-        let a = unsafe { sys::zlf_totals(kinds.as_ptr(), bytes.as_ptr(), bytes.len()) };
-        Ok(Totals { mark: Seam::of(a.mark)?, records: a.records, frames: a.frames })
+        let a = unsafe { sys::zlf_seam(kinds.as_ptr(), bytes.as_ptr(), bytes.len(), place as usize) };
+        Refusal::of(a.refusal, 0)?;
+        let (place, records) = (a.place as u64, a.records as u64);
+        Ok(if a.is_unbroken { Seam::Unbroken { records } } else { Seam::Broken { place, records } })
     }
 
     /// A page's rows, in the cursor's table, which grows where a page's last record holds more rows than it has room for.

@@ -2,8 +2,8 @@
 //! written for that crate changes little.
 //!
 //! The differences: a trace is a slice, and not a `TraceSource`; what cannot be read is a [`Refusal`], with its number, which becomes
-//! an `io::Error` by `?`; a record's payload is lent and not copied; and [`cursor::TraceCursor::seam`],
-//! [`cursor::TraceCursor::later_mark`], [`cursor::TraceCursor::totals`] and [`cursor::TraceCursor::plain_seek`] are new.
+//! an `io::Error` by `?`; a record's payload is lent and not copied; and [`cursor::TraceCursor::seam`] and
+//! [`cursor::TraceCursor::plain_seek`] are new.
 //!
 //! The library is for x86-64.
 #[cfg(not(target_arch = "x86_64"))]

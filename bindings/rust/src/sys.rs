@@ -150,14 +150,6 @@ pub struct zlf_seam_answer {
 
 #[repr(C)]
 #[derive(Debug, Clone, Copy, PartialEq, Eq)]
-pub struct zlf_totals_answer {
-    pub mark: zlf_seam_answer,
-    pub records: [u64; 5],
-    pub frames: [u64; 5],
-}
-
-#[repr(C)]
-#[derive(Debug, Clone, Copy, PartialEq, Eq)]
 pub struct zlf_frame_answer {
     pub is_frame: bool,
     pub direction: u8,
@@ -222,8 +214,6 @@ unsafe extern "C" {
     pub fn zlf_seek_step(kinds: *const u8, trace: *const u8, len: usize, time: i64, state: zlf_state) -> zlf_step_answer;
     pub fn zlf_page(kinds: *const u8, trace: *const u8, len: usize, offset: usize, count: usize, table: *mut zlf_row, room: usize) -> zlf_page_answer;
     pub fn zlf_seam(kinds: *const u8, trace: *const u8, len: usize, place: usize) -> zlf_seam_answer;
-    pub fn zlf_totals(kinds: *const u8, trace: *const u8, len: usize) -> zlf_totals_answer;
-    pub fn zlf_later_mark(kinds: *const u8, trace: *const u8, len: usize, from: usize, mark: zlf_seam_answer, place: usize) -> zlf_seam_answer;
     pub fn zlf_frame(body: *const u8, len: usize) -> zlf_frame_answer;
     pub fn zlf_fresh() -> zlf_parser;
     pub fn zlf_parse(parser: *mut zlf_parser, bytes: *const u8, len: usize) -> zlf_parsed;

@@ -6,10 +6,8 @@ mod sides;
 
 use std::io::Read;
 
-use sides::{Calls, HEADER};
-use zlf::zlf::KINDS;
+use sides::Calls;
 use zniff_core::cursor as old;
-use zniff_core::source::SliceSource;
 use zniff_core::zlf::types::ZLF_VERSION;
 
 /// The bytes of the cases, one field after the other.
@@ -102,24 +100,6 @@ fn pieces(calls: &mut Calls, mut rest: &[u8]) {
     }
 }
 
-/// The totals by the Rust's own records, the frames of each in a trace of its own; and a place's mark by that of the header's end.
-fn totals(calls: &mut Calls, trace: &[u8], place: u64) {
-    let Some((_, binding)) = sides::cursors(calls, trace) else { return };
-    let (mut at, mut records, mut frames) = (HEADER, [0; 5], [0; 5]);
-    while let Some(r) = zniff_core::resync::read_record(&mut SliceSource::new(trace), at).unwrap() {
-        let next = r.next_offset();
-        let alone = [&trace[..HEADER as usize], &trace[at as usize..next as usize]].concat();
-        let (mut rust, _) = sides::cursors(calls, &alone).unwrap();
-        let kind = KINDS[trace[next as usize - 1] as usize] as usize;
-        records[kind] += 1;
-        frames[kind] += rust.frames_at(HEADER, alone.len()).unwrap().frames.len() as u64;
-        at = next;
-    }
-    let mark = binding.seam(HEADER).unwrap();
-    calls.same(Ok(zlf::cursor::Totals { mark, records, frames }), binding.totals());
-    calls.same(binding.seam(place), binding.later_mark(HEADER, mark, place));
-}
-
 fn answer(letter: u8, i: &mut Cases, trace: &[u8], calls: &mut Calls) {
     match letter {
         b'K' => {
@@ -171,11 +151,7 @@ fn answer(letter: u8, i: &mut Cases, trace: &[u8], calls: &mut Calls) {
             let (at, count) = (i.u64(), i.u64());
             sides::pages(calls, trace, at, count, if letter == b'F' { u64::MAX } else { 1 });
         }
-        b'u' => {
-            let place = i.u64();
-            sides::seam(calls, trace, place);
-            totals(calls, trace, place);
-        }
+        b'u' => drop(sides::seam(calls, trace, i.u64())),
         // what the binding does not have: the regions, the header sum, and reading from any place; and all speeds at once
         b'G' => {}
         b'C' => (0..=255u8).for_each(|c| (0..=255u8).for_each(|r| calls.same(zniff_core::pti::speed_for(c, r), zlf::pti::speed_for(c, r)))),

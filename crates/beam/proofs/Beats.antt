@@ -1,18 +1,19 @@
 -- Counting a pattern's repeats from an offset on: what one turn of `beam_count` does to the count. Assumes nothing.
 use Prim.Native.Nat.{ℕ, zero, suc, ◌+◌, ◌-◌, ◌<◌, ◌≤◌, min}
+use lib.Dec.{eqb}
 use lib.ListN.{length, take, drop, get_or, length-drop, drop_of_length-le}
 use lib.Seq.{drop-cons, drop-drop, length-take-le}
-use mathlib.Core.Bool.{Bool, true, false, and-false}
+use mathlib.Core.Bool.{Bool, true, false, ◌&&◌, cond, and-false}
 use mathlib.Core.List.{List, [], ◌∷◌}
-use mathlib.Core.Path.{◌≡◌, refl, ap, ◌∙◌}
+use mathlib.Core.Path.{◌≡◌, refl, sym, ap, ◌∙◌}
 use native.Mathlib.Numerals.{add-one}
 use native.Mathlib.Omega.{arith}
 use borrow.Author.Tests.{eq-eqb, ne_eqb}
-use Rattle.beam.specs.Beam.{begins_with, starts_marked, repeats, beam_count}
+use Rattle.beam.specs.Beam.{starts, starts_marked, repeats, beam_count}
 
 -- a pattern that is longer than what is left does not match
-too_long : (pattern xs : List ℕ) → length xs < length pattern → begins_with pattern xs ≡ false
-unfolding begins_with
+too_long : (pattern xs : List ℕ) → length xs < length pattern → starts pattern xs ≡ false
+unfolding starts
 too_long [] xs h = absurd (omega arith)
 too_long (x ∷ pattern) [] h = refl
 too_long (x ∷ pattern) (y ∷ xs) h = simp (too_long pattern xs (omega arith), and-false)

@@ -2,14 +2,14 @@
 -- where the whole pattern fits and matches. Assumes nothing.
 use Prim.Native.Nat.{ℕ, zero, suc, ◌+◌, ◌-◌, ◌≤◌, min}
 use lib.Dec.{eqb}
-use lib.ListN.{take, drop, get_or}
+use lib.ListN.{length, take, drop, get_or}
 use lib.Seq.{get_or-take}
-use mathlib.Core.Bool.{Bool, true, false, ◌&&◌}
+use mathlib.Core.Bool.{Bool, true, false, ◌&&◌, cond}
 use mathlib.Core.List.{List, [], ◌∷◌}
-use mathlib.Core.Path.{◌≡◌, refl, ap, ◌∙◌}
+use mathlib.Core.Path.{◌≡◌, refl, sym, ap, ◌∙◌}
 use native.Mathlib.Omega.{arith}
 use borrow.Author.Tests.{eq-eqb, ne_eqb, eqb-true}
-use Rattle.beam.specs.Beam.{begins_with, starts_marked, repeats, beam_count}
+use Rattle.beam.specs.Beam.{starts, starts_marked, repeats, beam_count}
 
 first_test : (x y : ℕ) (more : Bool) → x ≡ 0x55 → (t : Bool) → eqb x y ≡ t → (eqb y 0x55 && (t && more)) ≡ (t && more)
 first_test x y more m true e = let h : x ≡ y = eqb-true x y e in simp (eq-eqb y 0x55 (omega arith))
@@ -19,11 +19,11 @@ first_test x y more m false e = none (eqb y 0x55)
     none true = refl
     none false = refl
 
-pub marker_implied : (pattern rest : List ℕ) → get_or pattern 0 0 ≡ 0x55 → starts_marked pattern rest ≡ begins_with pattern rest
-unfolding begins_with
+pub marker_implied : (pattern rest : List ℕ) → get_or pattern 0 0 ≡ 0x55 → starts_marked pattern rest ≡ starts pattern rest
+unfolding starts
 marker_implied [] rest m = absurd (omega arith)
 marker_implied (x ∷ pattern) [] m = refl
-marker_implied (x ∷ pattern) (y ∷ rest) m = first_test x y (begins_with pattern rest) m (eqb x y) refl
+marker_implied (x ∷ pattern) (y ∷ rest) m = first_test x y (starts pattern rest) m (eqb x y) refl
 
 -- two tests that agree count the same
 pub same_tests : (f g : List ℕ → Bool) → ((xs : List ℕ) → f xs ≡ g xs) → (size left : ℕ) (xs : List ℕ)
@@ -35,11 +35,11 @@ same_tests f g e size zero (x ∷ xs) =
     rw (e (x ∷ xs), same_tests f g e size (size - 1) xs, same_tests f g e size 0 xs)
 
 pub beam_count_plain : (size : ℕ) (bytes : List ℕ) → get_or bytes 0 0 ≡ 0x55 → 1 ≤ size
-    → beam_count size bytes ≡ min 65535 (1 + repeats (begins_with (take size bytes)) size 0 (drop size bytes))
+    → beam_count size bytes ≡ min 65535 (1 + repeats (starts (take size bytes)) size 0 (drop size bytes))
 unfolding beam_count
 beam_count_plain size bytes m some =
     let pattern = take size bytes in
-    let same : (xs : List ℕ) → starts_marked pattern xs ≡ begins_with pattern xs
+    let same : (xs : List ℕ) → starts_marked pattern xs ≡ starts pattern xs
     = λ (xs : List ℕ). marker_implied pattern xs (get_or-take size bytes 0 0 (omega arith) ∙ m) in
     simp (ne_eqb size 0 (omega arith))
-    (ap (λ (n : ℕ). min 65535 (1 + n)) (same_tests (starts_marked pattern) (begins_with pattern) same size 0 (drop size bytes)))
+    (ap (λ (n : ℕ). min 65535 (1 + n)) (same_tests (starts_marked pattern) (starts pattern) same size 0 (drop size bytes)))

@@ -1,16 +1,16 @@
 -- How often a wake_up beam repeats.
-use Rattle.std.specs.Prelude.{ℕ, zero, suc, ◌+◌, ◌-◌, min, eqb, get_or, take, drop, Bool, true, false, ◌&&◌, cond, List, [], ◌∷◌}
+use Rattle.std.specs.Prelude.{ℕ, zero, suc, ◌+◌, ◌-◌, min, eqb, length, get_or, take, drop, Bool, true, false, ◌&&◌, cond, List, [], ◌∷◌}
 
 -- whether the whole pattern fits and matches
-unfoldable pub begins_with : List ℕ → List ℕ → Bool
-begins_with [] rest = true
-begins_with (x ∷ pattern) [] = false
-begins_with (x ∷ pattern) (y ∷ rest) = eqb x y && begins_with pattern rest
+unfoldable pub starts : List ℕ → List ℕ → Bool
+starts [] rest = true
+starts (x ∷ pattern) [] = false
+starts (x ∷ pattern) (y ∷ rest) = eqb x y && starts pattern rest
 
--- the Rust looks only where a marker stands; a beam starts with one, so for a beam this is `begins_with` alone (`beam_count_plain` of
+-- the Rust looks only where a marker stands; a beam starts with one, so for a beam this is `starts` alone (`beam_count_plain` of
 -- proofs/Marker.antt)
 abbrev pub starts_marked : List ℕ → List ℕ → Bool
-starts_marked pattern rest = eqb (get_or rest 0 0) 0x55 && begins_with pattern rest
+starts_marked pattern rest = eqb (get_or rest 0 0) 0x55 && starts pattern rest
 
 -- 01: "an offset where the whole pattern fits and matches counts one and jumps past it, any other offset advances by one". `matches` is the
 -- test of what stands from an offset on, `size` the pattern's length, `left` how many bytes of the last match are still to be passed

@@ -1,19 +1,19 @@
 -- Worked examples beside those that document 01 marks P, by computation. Assumes nothing.
 use mathlib.Core.List.{[], ◌∷◌}
 use mathlib.Core.Path.{◌≡◌, refl}
-use Rattle.bracket.specs.Bracket.{good, bracket_walk, bodies_from, bodies, next_record}
+use Rattle.bracket.specs.Bracket.{good, walk, bodies_from, bodies, next_record}
 use Rattle.bracket.specs.declared.Split.TheVariants.{Body}
 
 -- one step over 5B 03 00 02 5D
 pub one_step : next_record (0x5B ∷ 0x03 ∷ 0x00 ∷ 0x02 ∷ 0x5D ∷ []) 0 ≡ Body 3 1 5
-unfolding next_record bracket_walk good
+unfolding next_record walk good
 one_step = refl
 
 -- L = 1 is passed over, L = 0 is bad
 pub passed_over : bodies (0x5B ∷ 0x01 ∷ 0x5D ∷ 0x5B ∷ 0x02 ∷ 0x00 ∷ 0x5D ∷ []) ≡ record { at = 6; len = 0 } ∷ []
-unfolding bodies_from bracket_walk good
+unfolding bodies_from walk good
 passed_over = refl
 
 pub bad_length : bodies (0x5B ∷ 0x00 ∷ 0x5B ∷ 0x02 ∷ 0x00 ∷ 0x5D ∷ []) ≡ []
-unfolding bodies_from bracket_walk good
+unfolding bodies_from walk good
 bad_length = refl

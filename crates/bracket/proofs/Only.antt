@@ -1,7 +1,7 @@
 -- What is told of a step of splitting determines it. Assumes nothing.
 use mathlib.Core.Bool.{cond}
 use mathlib.Core.Path.{◌≡◌, refl}
-use Rattle.lemmas.proofs.Only.{only}
+use Rattle.choice.proofs.Only.{only}
 use Rattle.bracket.specs.Told.{SplitTold, told_split}
 use Rattle.bracket.specs.declared.Split.{Split}
 use Rattle.bracket.specs.declared.Split.TheVariants.{Body, End}

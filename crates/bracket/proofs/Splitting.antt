@@ -10,10 +10,10 @@ use mathlib.Core.Logic.{⊎_elim}
 use mathlib.Core.Path.{◌≡◌, refl, sym, ap, subst, ◌∙◌}
 use native.Mathlib.Omega.{arith}
 use borrow.Author.Tests.{ltb-true, ltb-false}
-use Rattle.bracket.specs.Bracket.{bracket_length, close_at, after_bracket, good, Piece, body_at, bracket_walk, bodies_from, bodies, body_step, next_record, met, steps}
+use Rattle.bracket.specs.Bracket.{length_at, close_at, next_at, good, Piece, body_at, walk, bodies_from, bodies, step_at, next_record, met, steps}
 use Rattle.bracket.specs.declared.Split.{Split}
 use Rattle.bracket.specs.declared.Split.TheVariants.{Body, End}
-use Rattle.lemmas.proofs.Choice.{by_choice}
+use Rattle.choice.proofs.Choice.{by_choice}
 use Rattle.bracket.proofs.Walks.{past, enough, outside}
 
 -- a good bracket record ends inside the payload
@@ -38,19 +38,19 @@ from_before p a b h (Body at len next) i = (omega arith, i.1, i.2)
 from_before p a b h End i = tt
 
 module _ (p : List ℕ) where
-  inside_walk : (n at : ℕ) → Inside p at (bracket_walk (body_step p) End p n at)
-  unfolding bracket_walk Inside
+  inside_walk : (n at : ℕ) → Inside p at (walk (step_at p) End p n at)
+  unfolding walk Inside
   inside_walk zero at = tt
   inside_walk (suc n) at =
-      let later = bracket_walk (body_step p) End p n (after_bracket p at) in
-      by_choice (Inside p at) (good p at) {a = body_step p at later} {b = End}
+      let later = walk (step_at p) End p n (next_at p at) in
+      by_choice (Inside p at) (good p at) {a = step_at p at later} {b = End}
       (λ (g : good p at ≡ true).
       let f : close_at p at < length p = good_fits p at g in
-      by_choice (Inside p at) (ltb 1 (bracket_length p at)) {a = Body (at + 3) (bracket_length p at - 2) (after_bracket p at)} {b = later}
-      (λ (m : ltb 1 (bracket_length p at) ≡ true).
-      let l : 1 < bracket_length p at = ltb-true 1 (bracket_length p at) m in
+      by_choice (Inside p at) (ltb 1 (length_at p at)) {a = Body (at + 3) (length_at p at - 2) (next_at p at)} {b = later}
+      (λ (m : ltb 1 (length_at p at) ≡ true).
+      let l : 1 < length_at p at = ltb-true 1 (length_at p at) m in
       (omega arith, omega arith, omega arith))
-      (λ (m : ltb 1 (bracket_length p at) ≡ false). from_before p at (after_bracket p at) (omega arith) later (inside_walk n (after_bracket p at))))
+      (λ (m : ltb 1 (length_at p at) ≡ false). from_before p at (next_at p at) (omega arith) later (inside_walk n (next_at p at))))
       (λ (g : good p at ≡ false). tt)
 
   pub inside : (at : ℕ) → Inside p at (next_record p at)
@@ -91,17 +91,17 @@ module _ (p : List ℕ) where
   abbrev with_body : ℕ → List Piece → List Piece
   with_body at rest = body_at p at ++ rest
 
-  head_walk : (n at : ℕ) → length p ≤ n + at → bracket_walk with_body [] p n at ≡ met (bracket_walk (body_step p) End p n at) (bodies_from p)
-  unfolding bracket_walk bodies_from
+  head_walk : (n at : ℕ) → length p ≤ n + at → walk with_body [] p n at ≡ met (walk (step_at p) End p n at) (bodies_from p)
+  unfolding walk bodies_from
   head_walk zero at h = refl
   head_walk (suc n) at h =
-      one_record (good p at) (ltb 1 (bracket_length p at)) (record { at = at + 3; len = bracket_length p at - 2 })
-      (bracket_walk with_body [] p n (after_bracket p at))
-      (bracket_walk (body_step p) End p n (after_bracket p at))
-      (after_bracket p at)
+      one_record (good p at) (ltb 1 (length_at p at)) (record { at = at + 3; len = length_at p at - 2 })
+      (walk with_body [] p n (next_at p at))
+      (walk (step_at p) End p n (next_at p at))
+      (next_at p at)
       (bodies_from p)
-      (enough with_body [] p n (length p) (after_bracket p at) (omega arith) (omega arith))
-      (head_walk n (after_bracket p at) (omega arith))
+      (enough with_body [] p n (length p) (next_at p at) (omega arith) (omega arith))
+      (head_walk n (next_at p at) (omega arith))
 
   -- the bodies from a place on are the next step's and those from the place that it names
   pub head : (at : ℕ) → bodies_from p at ≡ met (next_record p at) (bodies_from p)
@@ -125,25 +125,25 @@ module _ (p : List ℕ) where
   all_steps = steps_from (length p) 0 (omega arith)
 
   -- every body of a payload lies inside it
-  piece_inside : (b : Piece) (n at : ℕ) → Memᴰ b (bracket_walk with_body [] p n at) → b.at + b.len ≤ length p
-  unfolding bracket_walk
+  piece_inside : (b : Piece) (n at : ℕ) → Memᴰ b (walk with_body [] p n at) → b.at + b.len ≤ length p
+  unfolding walk
   piece_inside b zero at = λ (m : Memᴰ b []). absurd (Memᴰ.not-nil m)
   piece_inside b (suc n) at =
-      let later = bracket_walk with_body [] p n (after_bracket p at) in
+      let later = walk with_body [] p n (next_at p at) in
       by_choice In (good p at) {a = body_at p at ++ later} {b = []}
       (λ (g : good p at ≡ true) (m : Memᴰ b (body_at p at ++ later)).
       ⊎_elim
-      (by_choice In (ltb 1 (bracket_length p at)) {a = here ∷ []} {b = []}
-      (λ (t : ltb 1 (bracket_length p at) ≡ true) (k : Memᴰ b (here ∷ [])).
+      (by_choice In (ltb 1 (length_at p at)) {a = here ∷ []} {b = []}
+      (λ (t : ltb 1 (length_at p at) ≡ true) (k : Memᴰ b (here ∷ [])).
       let e : b ≡ here = Memᴰ.eq_of_singleton k in
-      omega (arith, good_fits p at g, ltb-true 1 (bracket_length p at) t, ap (λ (x : Piece). x.at) e, ap (λ (x : Piece). x.len) e))
-      (λ (t : ltb 1 (bracket_length p at) ≡ false) (k : Memᴰ b []). absurd (Memᴰ.not-nil k)))
-      (piece_inside b n (after_bracket p at))
+      omega (arith, good_fits p at g, ltb-true 1 (length_at p at) t, ap (λ (x : Piece). x.at) e, ap (λ (x : Piece). x.len) e))
+      (λ (t : ltb 1 (length_at p at) ≡ false) (k : Memᴰ b []). absurd (Memᴰ.not-nil k)))
+      (piece_inside b n (next_at p at))
       (Memᴰ.append_cases (body_at p at) m))
       (λ (g : good p at ≡ false) (m : Memᴰ b []). absurd (Memᴰ.not-nil m))
     where
       here : Piece
-      here = record { at = at + 3; len = bracket_length p at - 2 }
+      here = record { at = at + 3; len = length_at p at - 2 }
 
       In : List Piece → Type 0
       In l = Memᴰ b l → b.at + b.len ≤ length p

@@ -8,8 +8,8 @@ use mathlib.Core.List.{List}
 use mathlib.Core.Path.{◌≡◌, refl, sym, ap, ◌∙◌}
 use native.Mathlib.Omega.{arith}
 use borrow.Author.Tests.{lt-ltb, le-ltb, eqb-true, ltb-true}
-use Rattle.lemmas.proofs.Choice.{left_true, right_true}
-use Rattle.bracket.specs.Bracket.{bracket_length, close_at, after_bracket, good, good_length, bracket_walk, body_step, next_record}
+use Rattle.choice.proofs.Choice.{left_true, right_true}
+use Rattle.bracket.specs.Bracket.{length_at, close_at, next_at, good, good_length, walk, step_at, next_record}
 use Rattle.bracket.specs.declared.Split.{Split}
 use Rattle.bracket.specs.declared.Split.TheVariants.{Body, End}
 use Rattle.bracket.proofs.Walks.{too_short, past, is_good, unrolled}
@@ -39,25 +39,25 @@ module _ (p : List ℕ) (at : ℕ) where
   closes = eqb (get_or p (close_at p at) 0) 0x5D
 
   abbrev some : Bool
-  some = ltb 0 (bracket_length p at)
+  some = ltb 0 (length_at p at)
 
   not_good : (opens && closes) ≡ false → good p at ≡ false
   unfolding good
   not_good h = neither long fits opens closes some h
 
-  some_length : good p at ≡ true → 0 < bracket_length p at
+  some_length : good p at ≡ true → 0 < length_at p at
   unfolding good
-  some_length g = ltb-true 0 (bracket_length p at) (last_true long fits opens closes some g)
+  some_length g = ltb-true 0 (length_at p at) (last_true long fits opens closes some g)
 
-module _ (p : List ℕ) (at len : ℕ) (e : len ≡ bracket_length p at) where
+module _ (p : List ℕ) (at len : ℕ) (e : len ≡ length_at p at) where
   abbrev bracketed : Bool
   bracketed = eqb (get_or p at 0) 0x5B && eqb (get_or p (at + 1 + len) 0) 0x5D
 
   pub overlong : length p ≤ at + 1 + len → 0 ≡ good_length p at
-  overlong h = sym (ap (λ (b : Bool). cond b (bracket_length p at) 0) (past p at (omega arith)))
+  overlong h = sym (ap (λ (b : Bool). cond b (length_at p at) 0) (past p at (omega arith)))
 
   pub unbracketed : bracketed ≡ false → 0 ≡ good_length p at
-  unbracketed h = sym (ap (λ (b : Bool). cond b (bracket_length p at) 0) (not_good p at (rw e at h)))
+  unbracketed h = sym (ap (λ (b : Bool). cond b (length_at p at) 0) (not_good p at (rw e at h)))
 
   pub whole : 4 < length p → at + 1 + len < length p → bracketed ≡ true → len ≡ good_length p at
   whole long fits h =
@@ -65,20 +65,20 @@ module _ (p : List ℕ) (at len : ℕ) (e : len ≡ bracket_length p at) where
       let b : Bool = eqb (get_or p (at + 1 + len) 0) 0x5D in
       let opened : get_or p at 0 ≡ 0x5B = eqb-true (get_or p at 0) 0x5B (left_true a b h) in
       let closed : get_or p (at + 1 + len) 0 ≡ 0x5D = eqb-true (get_or p (at + 1 + len) 0) 0x5D (right_true a b h) in
-      e ∙ sym (ap (λ (b : Bool). cond b (bracket_length p at) 0) (is_good p at long (omega arith) opened (rw e at closed)))
+      e ∙ sym (ap (λ (b : Bool). cond b (length_at p at) 0) (is_good p at long (omega arith) opened (rw e at closed)))
 
 module _ (p : List ℕ) (at : ℕ) where
-  none_by : (b : Bool) → good p at ≡ b → cond b (bracket_length p at) 0 ≡ 0 → good p at ≡ false
+  none_by : (b : Bool) → good p at ≡ b → cond b (length_at p at) 0 ≡ 0 → good p at ≡ false
   none_by true g z = absurd (omega (arith, some_length p at g))
   none_by false g z = g
 
-  one_by : (b : Bool) → good p at ≡ b → 0 < cond b (bracket_length p at) 0 → (good p at ≡ true) × (cond b (bracket_length p at) 0 ≡ bracket_length p at)
+  one_by : (b : Bool) → good p at ≡ b → 0 < cond b (length_at p at) 0 → (good p at ≡ true) × (cond b (length_at p at) 0 ≡ length_at p at)
   one_by true g z = (g, refl)
   one_by false g z = absurd (omega arith)
 
   pub ended : good p at ≡ false → End ≡ next_record p at
   unfolding next_record
-  ended bad = sym (unrolled (body_step p) End p at ∙ simp bad)
+  ended bad = sym (unrolled (step_at p) End p at ∙ simp bad)
 
   pub none : length p ≤ 4 → End ≡ next_record p at
   none h = ended (too_short p at h)
@@ -87,7 +87,7 @@ module _ (p : List ℕ) (at : ℕ) where
   passed h = ended (past p at (omega arith))
 
 module _ (p : List ℕ) (at len : ℕ) (e : len ≡ good_length p at) where
-  one_good : 0 < len → (good p at ≡ true) × (len ≡ bracket_length p at)
+  one_good : 0 < len → (good p at ≡ true) × (len ≡ length_at p at)
   one_good h =
       let some : 0 < good_length p at = rw e at h in
       let is : _ = one_by p at (good p at) refl some in
@@ -99,15 +99,15 @@ module _ (p : List ℕ) (at len : ℕ) (e : len ≡ good_length p at) where
   pub found : 2 ≤ len → Body (at + 3) (len - 2) (at + len + 2) ≡ next_record p at
   unfolding next_record
   found h =
-      let g : (good p at ≡ true) × (len ≡ bracket_length p at) = one_good (omega arith) in
+      let g : (good p at ≡ true) × (len ≡ length_at p at) = one_good (omega arith) in
       let next : at + len + 2 ≡ at + 1 + len + 1 = omega arith in
-      rw (next, g.1) (sym (unrolled (body_step p) End p at ∙ simp (g.0, lt-ltb 1 (bracket_length p at) (omega (arith, g.1)))))
+      rw (next, g.1) (sym (unrolled (step_at p) End p at ∙ simp (g.0, lt-ltb 1 (length_at p at) (omega (arith, g.1)))))
 
   pub onward : (len ≡ 0 → ⊥) → len < 2 → next_record p at ≡ next_record p (at + 3)
   unfolding next_record
   onward some few =
-      let g : (good p at ≡ true) × (len ≡ bracket_length p at) = one_good (omega arith) in
-      let third : after_bracket p at ≡ at + 3 = omega (arith, g.1) in
-      let rest : Split = bracket_walk (body_step p) End p (length p) (after_bracket p at) in
-      let turn : cond (good p at) (body_step p at rest) End ≡ rest = simp (g.0, le-ltb 1 (bracket_length p at) (omega (arith, g.1))) in
-      unrolled (body_step p) End p at ∙ turn ∙ ap (λ (k : ℕ). bracket_walk (body_step p) End p (length p) k) third
+      let g : (good p at ≡ true) × (len ≡ length_at p at) = one_good (omega arith) in
+      let third : next_at p at ≡ at + 3 = omega (arith, g.1) in
+      let rest : Split = walk (step_at p) End p (length p) (next_at p at) in
+      let turn : cond (good p at) (step_at p at rest) End ≡ rest = simp (g.0, le-ltb 1 (length_at p at) (omega (arith, g.1))) in
+      unrolled (step_at p) End p at ∙ turn ∙ ap (λ (k : ℕ). walk (step_at p) End p (length p) k) third

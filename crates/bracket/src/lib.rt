@@ -19,13 +19,19 @@ pub enum Split {
     End,
 }
 
+fn wide(x: u8) -> usize
+    ensures { (result ≡ x) × (result < 256) }
+{
+    x as usize
+}
+
 // The length of the good bracket record at a place, 0 where none stands there: a length of 0 is bad.
 fn good_length(payload: &[u8], at: usize) -> usize
     requires { (4 < length payload.now) × (at + 1 < length payload.now) }
     ensures { (result ≡ good_length payload.now at) × (at + 1 + result < length payload.now) }
 {
     let index = at + 1;
-    let len = numbers::wide(payload[index]);
+    let len = wide(payload[index]);
     let close = index + len;
     if close >= payload.len() {
         return 0;

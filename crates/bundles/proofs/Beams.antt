@@ -8,9 +8,9 @@ use mathlib.Core.Path.{◌≡◌, refl}
 use native.Mathlib.Decide.{dec_le}
 use native.Mathlib.Omega.{arith}
 use borrow.Author.Tests.{ne_eqb}
-use Rattle.lemmas.proofs.Choice.{by_choice, right_true}
+use Rattle.choice.proofs.Choice.{by_choice, right_true}
 use Rattle.bracket.specs.Bracket.{good, Piece, bodies}
-use Rattle.beam.specs.Beam.{begins_with, starts_marked, repeats, beam_count}
+use Rattle.beam.specs.Beam.{starts, starts_marked, repeats, beam_count}
 use Rattle.bundles.specs.Bundles.{bracket_of, body_in, bytes_of, contents}
 use Rattle.bundles.specs.Beams.{uncapped, body_most, beams_most}
 use Rattle.bundles.specs.Examples.{markers}
@@ -29,11 +29,11 @@ module _ (matches : List ℕ → Bool) (size : ℕ) (three : 3 ≤ size) (fits :
       (λ (t : matches (x ∷ l) ≡ true). let f = fits (x ∷ l) t in let r = few (size - 1) 2 l (omega arith) (omega arith) in omega arith)
       (λ (t : matches (x ∷ l) ≡ false). let r = few 0 0 l (omega arith) (omega arith) in omega arith)
 
-starts_fits : (pattern l : List ℕ) → begins_with pattern l ≡ true → length pattern ≤ length l
-unfolding begins_with
+starts_fits : (pattern l : List ℕ) → starts pattern l ≡ true → length pattern ≤ length l
+unfolding starts
 starts_fits [] l e = omega arith
 starts_fits (x ∷ pattern) [] e = absurd (false≢true e)
-starts_fits (x ∷ pattern) (y ∷ l) e = let r = starts_fits pattern l (right_true (eqb x y) (begins_with pattern l) e) in omega arith
+starts_fits (x ∷ pattern) (y ∷ l) e = let r = starts_fits pattern l (right_true (eqb x y) (starts pattern l) e) in omega arith
 
 -- beams of 3 bytes or more, in fewer bytes than so many and one take
 module _ (size : ℕ) (three : 3 ≤ size) (bytes : List ℕ) (most : ℕ) (some : 1 ≤ most) (fewer : length bytes < 3 * (most + 1)) where
@@ -90,10 +90,10 @@ module _ (p : List ℕ) (bytes : (k : ℕ) → get_or p k 0 < 256) where
 
 -- so many there can be: in a payload of one bracket record with the longest body
 pub beams_reached : (contents (bracket_of (0 ∷ markers)) ≡ markers ∷ []) × (beam_count 3 markers ≡ beams_most)
-unfolding flat_map bracket_of body_in beam_count repeats begins_with
+unfolding flat_map bracket_of body_in beam_count repeats starts
 beams_reached = (made_contents ((0 ∷ markers) ∷ []) (omega arith), refl)
 
 -- with a pattern of 1 byte there would be more
 pub three_needed : beam_count 1 markers ≡ body_most
-unfolding beam_count repeats begins_with
+unfolding beam_count repeats starts
 three_needed = refl

@@ -8,11 +8,11 @@ use mathlib.Core.Path.{◌≡◌, refl, sym, ap, ◌∙◌}
 use native.Mathlib.Nat.{add-zero}
 use native.Mathlib.Decide.{dec_le}
 use native.Mathlib.Omega.{arith}
-use Rattle.lemmas.proofs.Choice.{either}
-use Rattle.bracket.specs.Bracket.{bracket_length, close_at, after_bracket, good, Piece, body_at, bracket_walk, bodies_from}
+use Rattle.choice.proofs.Choice.{either}
+use Rattle.bracket.specs.Bracket.{length_at, close_at, next_at, good, Piece, body_at, walk, bodies_from}
 use Rattle.bracket.proofs.Walks.{past, is_good, unrolled}
 use Rattle.bracket.proofs.Splitting.{good_fits}
-use Rattle.bundles.specs.Bundles.{Consumed, size_at, taken_bytes, bytes_of, contents, Kept}
+use Rattle.bundles.specs.Bundles.{Consumed, size_at, taken, bytes_of, contents, Kept}
 use Rattle.bundles.specs.Examples.{one, other}
 use Rattle.bundles.proofs.Taken.{opened, closed, all_taken}
 use Rattle.bundles.proofs.Split.{contents_on}
@@ -20,30 +20,30 @@ use Rattle.bundles.proofs.Split.{contents_on}
 -- the splitter stops inside the payload or at its end, where no good bracket record stands
 module _ (p : List ℕ) where
   abbrev stop : ℕ → ℕ → ℕ
-  stop n at = bracket_walk (λ (here rest : ℕ). size_at p here + rest) 0 p n at + at
+  stop n at = walk (λ (here rest : ℕ). size_at p here + rest) 0 p n at + at
 
-  stop_on : (n at : ℕ) → good p at ≡ true → stop (suc n) at ≡ stop n (after_bracket p at)
-  unfolding bracket_walk
+  stop_on : (n at : ℕ) → good p at ≡ true → stop (suc n) at ≡ stop n (next_at p at)
+  unfolding walk
   stop_on n at t = simp t (omega arith)
 
   stop_here : (n at : ℕ) → good p at ≡ false → stop (suc n) at ≡ at
-  unfolding bracket_walk
+  unfolding walk
   stop_here n at t = simp t (omega arith)
 
   stop_inside : (n at : ℕ) → at ≤ length p → stop n at ≤ length p
-  unfolding bracket_walk
+  unfolding walk
   stop_inside zero at h = omega arith
   stop_inside (suc n) at h =
       either (good p at)
-      (λ (t : good p at ≡ true). omega (arith, stop_on n at t, stop_inside n (after_bracket p at) (omega (arith, good_fits p at t))))
+      (λ (t : good p at ≡ true). omega (arith, stop_on n at t, stop_inside n (next_at p at) (omega (arith, good_fits p at t))))
       (λ (t : good p at ≡ false). omega (arith, stop_here n at t))
 
   stop_bad : (n at : ℕ) → length p ≤ n + at → good p (stop n at) ≡ false
-  unfolding bracket_walk
+  unfolding walk
   stop_bad zero at h = past p (stop zero at) (omega arith)
   stop_bad (suc n) at h =
       either (good p at)
-      (λ (t : good p at ≡ true). ap (good p) (stop_on n at t) ∙ stop_bad n (after_bracket p at) (omega arith))
+      (λ (t : good p at ≡ true). ap (good p) (stop_on n at t) ∙ stop_bad n (next_at p at) (omega arith))
       (λ (t : good p at ≡ false). ap (good p) (stop_here n at t) ∙ t)
 
 -- no byte of these two is 0x5D at the same place
@@ -57,16 +57,16 @@ no_common (suc (suc (suc (suc (suc j))))) h e f = omega arith
 
 module _ (p : List ℕ) (long : 4 < length p) where
   at : ℕ
-  at = taken_bytes p
+  at = taken p
 
   -- where a second with a body loses nothing, a good bracket record of the two stands where the first's stop
   goes_on_lem : (q x : List ℕ) (l : List (List ℕ)) → contents q ≡ x ∷ l → Kept p q → good (p ++ q) at ≡ true
   unfolding at bodies_from
   goes_on_lem q x l some kept =
-      either (good (p ++ q) (taken_bytes p)) (λ (t : good (p ++ q) (taken_bytes p) ≡ true). t)
-      (λ (t : good (p ++ q) (taken_bytes p) ≡ false).
-      let none : bodies_from (p ++ q) (taken_bytes p) ≡ [] =
-      unrolled (λ (here : ℕ) (rest : List Piece). body_at (p ++ q) here ++ rest) [] (p ++ q) (taken_bytes p) ∙ simp t
+      either (good (p ++ q) (taken p)) (λ (t : good (p ++ q) (taken p) ≡ true). t)
+      (λ (t : good (p ++ q) (taken p) ≡ false).
+      let none : bodies_from (p ++ q) (taken p) ≡ [] =
+      unrolled (λ (here : ℕ) (rest : List Piece). body_at (p ++ q) here ++ rest) [] (p ++ q) (taken p) ∙ simp t
       in
       absurd
       (nil≢cons
@@ -79,12 +79,12 @@ module _ (p : List ℕ) (long : 4 < length p) where
     both_fit = omega (arith, good_fits (p ++ q) at t, length-append p q)
 
     -- its L stands in the second, too
-    late_length : length p ≤ at + 1 → bracket_length (p ++ q) at ≡ get_or q 0 0
+    late_length : length p ≤ at + 1 → length_at (p ++ q) at ≡ get_or q 0 0
     late_length h =
         ap (λ (i : ℕ). get_or (p ++ q) i 0) {x = at + 1} {y = length p + 0} (omega (arith, before)) ∙ get_or-append-add p q 0 0
 
     module _ (first : at + 1 < length p) where
-      same : bracket_length (p ++ q) at ≡ bracket_length p at
+      same : length_at (p ++ q) at ≡ length_at p at
       same = get_or-append p q 0 (at + 1) first
 
       stands : (bad : good p at ≡ false) → (length p ≤ close_at p at) × (close_at p at < length p + length q) × (get_or q (close_at p at - length p) 0 ≡ 0x5D)
@@ -109,19 +109,19 @@ module _ (p : List ℕ) (long : 4 < length p) where
               absurd (true≢false (sym is ∙ bad))
 
   stopped : good p at ≡ false
-  unfolding at taken_bytes
-  stopped = ap (good p) (sym (add-zero (taken_bytes p))) ∙ stop_bad p (length p) 0 (omega arith)
+  unfolding at taken
+  stopped = ap (good p) (sym (add-zero (taken p))) ∙ stop_bad p (length p) 0 (omega arith)
 
   at_most : at ≤ length p
-  unfolding at taken_bytes
+  unfolding at taken
   at_most = omega (arith, stop_inside p (length p) 0 (omega arith))
 
   one_body : contents one ≡ (7 ∷ []) ∷ []
-  unfolding contents bodies_from bracket_walk good
+  unfolding contents bodies_from walk good
   one_body = refl
 
   other_body : contents other ≡ (7 ∷ 7 ∷ []) ∷ []
-  unfolding contents bodies_from bracket_walk good
+  unfolding contents bodies_from walk good
   other_body = refl
 
   module _ (all : (q : List ℕ) → 4 < length q → Kept p q) where
@@ -146,8 +146,8 @@ module _ (p : List ℕ) (long : 4 < length p) where
     -- the first is consumed to its last byte, if no second payload over 4 bytes loses anything
     pub exactly : Consumed p
     unfolding at
-    exactly = all_taken p (by (dec_le (length p) (taken_bytes p)))
+    exactly = all_taken p (by (dec_le (length p) (taken p)))
       where
-        by : Dec (length p ≤ taken_bytes p) → taken_bytes p ≡ length p
+        by : Dec (length p ≤ taken p) → taken p ≡ length p
         by (yes h) = omega (arith, at_most)
         by (no h) = absurd (never_before (omega arith))

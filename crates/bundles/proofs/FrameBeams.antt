@@ -10,12 +10,12 @@ use mathlib.Core.Logic.{⊎_elim}
 use mathlib.Core.Path.{◌≡◌, refl, ap}
 use native.Mathlib.Decide.{dec_le}
 use native.Mathlib.Omega.{arith}
-use Rattle.lemmas.proofs.Choice.{by_choice}
-use Rattle.lemmas.proofs.Flat.{flat_each}
+use Rattle.choice.proofs.Choice.{by_choice}
+use Rattle.choice.proofs.Flat.{flat_each}
 use Rattle.layout.specs.Layout.{payload_part}
-use Rattle.layout.specs.Fields.{length_at, kind_at, outgoing_at, payload_at}
+use Rattle.layout.specs.Fields.{length_at, kind_at, outgoing_at}
 use Rattle.bracket.specs.Bracket.{Piece, bodies}
-use Rattle.beam.specs.Beam.{beam_count, repeats, begins_with}
+use Rattle.beam.specs.Beam.{beam_count, repeats, starts}
 use Rattle.speed.specs.Speed.{speed_for, among}
 use Rattle.pti.specs.Frame.{tail_size, is_beam, speed_of, fields_of, accepted, parts_of, sided_of, tagged_of, frame_of}
 use Rattle.pti.specs.declared.Parsed.{Parsed}
@@ -25,8 +25,8 @@ use Rattle.zniffer_numbers.specs.declared.ParserResult.{ParserResult}
 use Rattle.zniffer_numbers.specs.declared.ParserResult.TheVariants.{ValidCommand, ValidFrame, IncompleteFrame, InvalidFrame}
 use Rattle.zniffer_numbers.specs.Numbers.{fresh_core}
 use Rattle.zniffer_core.specs.Run.{core_step_of}
-use Rattle.rows.specs.Frames.{Placed, frame_held, held_in, pti_from, completed, completed_by, frames_from}
-use Rattle.rows.specs.Rows.{numbered, rows_at}
+use Rattle.rows.specs.Frames.{Placed, held_by, held_in, pti_from, completed, completed_by, frames_from}
+use Rattle.rows.specs.Rows.{payload_at, numbered, rows_at}
 use Rattle.rows.specs.declared.Row.{Row}
 use Rattle.bundles.specs.Bundles.{bytes_of}
 use Rattle.bundles.specs.Beams.{body_most, frame_beams_most, beams_told}
@@ -88,7 +88,7 @@ module _ (body : List ℕ) (short : length body ≤ body_most) where
 
 -- so many there can be
 pub frame_reached : (length beam ≡ body_most) × (beams_told (frame_of beam) ≡ frame_beams_most)
-unfolding frame_of tagged_of sided_of parts_of beam_count repeats begins_with speed_for among
+unfolding frame_of tagged_of sided_of parts_of beam_count repeats starts speed_for among
 frame_reached = (refl, refl)
 
 -- the frames of a payload of bytes, of any kind: a Zniffer frame is no beam
@@ -96,7 +96,7 @@ module _ (p : List ℕ) (bytes : (k : ℕ) → get_or p k 0 < 256) where
   abbrev FewIn : Placed → Type 0
   FewIn x = x.frame.beam_count ≤ frame_beams_most
 
-  held_few : (at len : ℕ) (r : Parsed) → Few r → (x : Placed) → Memᴰ x (frame_held at len r) → FewIn x
+  held_few : (at len : ℕ) (r : Parsed) → Few r → (x : Placed) → Memᴰ x (held_by at len r) → FewIn x
   held_few at len (Frame f) h x m = omega (arith, ap (λ (y : Placed). y.frame.beam_count) (Memᴰ.eq_of_singleton m))
   held_few at len Nothing h x m = absurd (Memᴰ.not-nil m)
 

@@ -7,14 +7,14 @@ use mathlib.Core.Bool.{Bool, true, false}
 use mathlib.Core.List.{List, [], ◌∷◌, ◌++◌, append-nil, map, flat_map, flatten, Memᴰ}
 use mathlib.Core.Path.{◌≡◌, refl, sym, ap, ◌∙◌}
 use native.Mathlib.Omega.{arith}
-use Rattle.lemmas.proofs.Choice.{either}
-use Rattle.lemmas.proofs.Flat.{flat_same, flat_append, map_flat, flat_map_lem}
+use Rattle.choice.proofs.Choice.{either}
+use Rattle.choice.proofs.Flat.{flat_same, flat_append, map_flat, flat_map_lem}
 use Rattle.bracket.specs.Bracket.{Piece, bodies}
 use Rattle.pti.specs.Frame.{frame_of}
 use Rattle.pti.specs.declared.Parsed.{Parsed}
 use Rattle.pti.specs.declared.Parsed.TheVariants as Parsed
 use Rattle.pti.proofs.Mpdus.{mpdu_inside}
-use Rattle.rows.specs.Frames.{Placed, frame_held, held_in, pti_from, frames_from}
+use Rattle.rows.specs.Frames.{Placed, held_by, held_in, pti_from, frames_from}
 use Rattle.rows.proofs.Walk.{is_pti_lem}
 use Rattle.bundles.specs.Bundles.{Consumed, bytes_of, contents, Bundle, empty_record, beside}
 use Rattle.bundles.specs.Heard.{Heard, heard_with, heard_in, heard_by, heard_body, heard, is_pti}
@@ -33,7 +33,7 @@ part_of_part m n len x h =
 -- a frame says in its payload what it says in its body
 module _ (p : List ℕ) where
   body_says : (b : Piece) (r : Parsed) → frame_of (bytes_of p b) ≡ r
-      → map (λ (x : Placed). heard_in p x.frame) (frame_held b.at b.len r) ≡ heard_by (bytes_of p b) r
+      → map (λ (x : Placed). heard_in p x.frame) (held_by b.at b.len r) ≡ heard_by (bytes_of p b) r
   body_says b Parsed.Nothing e = refl
   body_says b (Parsed.Frame f) e =
       let same : take f.mpdu_len (drop (b.at + f.mpdu) p) ≡ take f.mpdu_len (drop f.mpdu (bytes_of p b)) =

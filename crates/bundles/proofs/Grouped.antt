@@ -1,15 +1,15 @@
 -- 02's request 12: three payloads grouped either way, and any number. Assumes nothing.
-use Prim.Native.Nat.{ℕ, ◌<◌}
+use Prim.Native.Nat.{ℕ, ◌+◌, ◌<◌}
 use lib.ListN.{length, length-append}
 use mathlib.Core.List.{List, [], ◌∷◌, ◌++◌, append-nil, append_assoc, map, flat_map, flatten}
 use mathlib.Core.Path.{◌≡◌, refl, sym, ap, ◌∙◌}
 use native.Mathlib.Omega.{arith}
-use Rattle.lemmas.proofs.Flat.{flatten_append}
-use Rattle.bracket.specs.Bracket.{bracket_walk, bodies_from, bodies}
-use Rattle.bundles.specs.Bundles.{contents, Bundled, EitherWay, Bundle, AllLong}
+use Rattle.choice.proofs.Flat.{flatten_append}
+use Rattle.bracket.specs.Bracket.{walk, bodies_from, bodies}
+use Rattle.bundles.specs.Bundles.{contents, Premises, EitherWay, Bundle, AllLong}
 use Rattle.bundles.proofs.Joined.{joined_consumed, joined, joined_long}
 
-pub either_way : (p q r : List ℕ) → Bundled p q → Bundled q r → EitherWay p q r
+pub either_way : (p q r : List ℕ) → Premises p q → Premises q r → EitherWay p q r
 either_way p q r on on' =
     record {
       left = left;
@@ -20,10 +20,10 @@ either_way p q r on on' =
       same_places = ap bodies (append_assoc p q r);
     }
   where
-    left : Bundled (p ++ q) r
+    left : Premises (p ++ q) r
     left = record { first_long = joined_long p q on; consumed = joined_consumed p q on.consumed on'.consumed; second_long = on'.second_long }
 
-    right : Bundled p (q ++ r)
+    right : Premises p (q ++ r)
     right = record { first_long = on.first_long; consumed = on.consumed; second_long = joined_long q r on' }
 
 -- splitting a bundle gives the bodies of each of its payloads, in order
@@ -32,7 +32,7 @@ unfolding AllLong flatten
 bundle_long p ps l = omega (arith, l.0, length-append p (flatten ps))
 
 pub bundled : (ps : List (List ℕ)) → Bundle ps → AllLong ps → contents (flatten ps) ≡ flat_map contents ps
-unfolding Bundle AllLong flatten flat_map contents bodies_from bracket_walk
+unfolding Bundle AllLong flatten flat_map contents bodies_from walk
 bundled [] b l = refl
 bundled (p ∷ []) b l = ap contents (append-nil p) ∙ sym (append-nil (contents p))
 bundled (p ∷ (q ∷ ps)) b l =

@@ -1,13 +1,13 @@
 -- 02's request 12: two payloads joined, on 02's premises. Nothing else is in this file. Assumes nothing.
-use Prim.Native.Nat.{ℕ, ◌<◌, ◌≤◌}
+use Prim.Native.Nat.{ℕ, ◌+◌, ◌<◌, ◌≤◌}
 use lib.ListN.{length, length-append}
 use mathlib.Core.List.{List, ◌++◌, map, flat_map}
 use mathlib.Core.Path.{◌≡◌, sym, ap, ◌∙◌}
 use native.Mathlib.Omega.{arith}
-use Rattle.lemmas.proofs.Flat.{flat_append}
+use Rattle.choice.proofs.Flat.{flat_append}
 use Rattle.bracket.specs.Bracket.{steps}
 use Rattle.bracket.proofs.Splitting.{steps_from}
-use Rattle.bundles.specs.Bundles.{bracket_of, Consumed, moved_by, Bundled, Kept, KeptPlaces}
+use Rattle.bundles.specs.Bundles.{bracket_of, Consumed, moved_by, Premises, Kept, KeptPlaces}
 use Rattle.bundles.proofs.Split.{places_kept}
 use Rattle.bundles.proofs.Whole.{four_bytes, kept_there}
 
@@ -19,7 +19,7 @@ joined_consumed p q c d =
       made = ap (λ (x : List ℕ). x ++ q) c.made ∙ ap (λ (y : List ℕ). flat_map bracket_of c.inners ++ y) d.made ∙ sym (flat_append bracket_of c.inners d.inners);
     }
 
-module _ (p q : List ℕ) (on : Bundled p q) where
+module _ (p q : List ℕ) (on : Premises p q) where
   -- "splitting the joined payload gives the bodies of the first followed by those of the second"
   pub joined_places : KeptPlaces p q
   joined_places =

@@ -9,11 +9,11 @@ use mathlib.Core.Logic.{⊎_elim}
 use mathlib.Core.Path.{◌≡◌, refl, sym, ap, ◌∙◌}
 use native.Mathlib.Omega.{arith}
 use borrow.Author.Tests.{lt-ltb, le-ltb}
-use Rattle.lemmas.proofs.Choice.{either}
-use Rattle.lemmas.proofs.Flat.{flat_each}
-use Rattle.bracket.specs.Bracket.{bracket_length, close_at, after_bracket, good, Piece, body_at, bracket_walk, bodies_from}
+use Rattle.choice.proofs.Choice.{either}
+use Rattle.choice.proofs.Flat.{flat_each}
+use Rattle.bracket.specs.Bracket.{length_at, close_at, next_at, good, Piece, body_at, walk, bodies_from}
 use Rattle.bracket.proofs.Walks.{is_good, outside, unrolled}
-use Rattle.bundles.specs.Bundles.{bracket_of, body_in, InnerBytes, Consumed, size_at, taken_bytes, bytes_of, contents}
+use Rattle.bundles.specs.Bundles.{bracket_of, body_in, Bytes, Consumed, size_at, taken, bytes_of, contents}
 
 -- every join of bracket records is consumed to its last byte; where the bodies have 0 to 253 bytes, or L is 1, it is bytes (`made_bytes`)
 pub made_consumed : (inners : List (List ℕ)) → Consumed (flat_map bracket_of inners)
@@ -28,11 +28,11 @@ module _ (w : List ℕ) (long : 4 < length w) (pre inner rest : List ℕ) (is : 
   there_byte : (k : ℕ) → get_or w (length pre + k) 0 ≡ get_or (bracket_of inner ++ rest) k 0
   there_byte k = ap (λ (x : List ℕ). get_or x (length pre + k) 0) is ∙ get_or-append-add pre (bracket_of inner ++ rest) k 0
 
-  pub there_length : bracket_length w (length pre) ≡ length inner + 1
+  pub there_length : length_at w (length pre) ≡ length inner + 1
   unfolding bracket_of
   there_length = there_byte 1
 
-  there_next : after_bracket w (length pre) ≡ length (pre ++ bracket_of inner)
+  there_next : next_at w (length pre) ≡ length (pre ++ bracket_of inner)
   there_next = omega (arith, there_length, length-append pre (bracket_of inner), bracket_size inner)
 
   there_close : get_or w (close_at w (length pre)) 0 ≡ 0x5D
@@ -55,7 +55,7 @@ module _ (w : List ℕ) (long : 4 < length w) (pre inner rest : List ℕ) (is : 
 module _ {A : Type 0} (w : List ℕ) (long : 4 < length w) (each : ℕ → A → A) (end : A) (made : List ℕ → A → A)
     (same : (pre inner rest : List ℕ) → w ≡ pre ++ (bracket_of inner ++ rest) → (a : A) → each (length pre) a ≡ made inner a) where
   abbrev from : ℕ → A
-  from at = bracket_walk each end w (length w) at
+  from at = walk each end w (length w) at
 
   made_walk : (pre : List ℕ) (inners : List (List ℕ)) → w ≡ pre ++ flat_map bracket_of inners → from (length pre) ≡ foldr made end inners
   unfolding flat_map
@@ -77,8 +77,8 @@ unfolding flat_map
 sizes [] = refl
 sizes (i ∷ inners) = omega (arith, sizes inners, length-append (bracket_of i) (flat_map bracket_of inners), bracket_size i)
 
-pub taken_all : (p : List ℕ) → 4 < length p → Consumed p → taken_bytes p ≡ length p
-unfolding taken_bytes
+pub taken_all : (p : List ℕ) → 4 < length p → Consumed p → taken p ≡ length p
+unfolding taken
 taken_all p long c =
     made_of p long (λ (here rest : ℕ). size_at p here + rest) 0 (λ (i : List ℕ) (n : ℕ). (length i + 3) + n)
     (λ (pre inner rest : List ℕ) (is : p ≡ pre ++ (bracket_of inner ++ rest)) (n : ℕ). omega (arith, there_length p long pre inner rest is))
@@ -88,24 +88,24 @@ taken_all p long c =
 
 -- a function of what a walk comes to
 through : {A B : Type 0} (f : A → B) (each : ℕ → A → A) (then : ℕ → B → B) (end : A) (p : List ℕ)
-    → ((here : ℕ) (a : A) → f (each here a) ≡ then here (f a)) → (n at : ℕ) → f (bracket_walk each end p n at) ≡ bracket_walk then (f end) p n at
-unfolding bracket_walk
+    → ((here : ℕ) (a : A) → f (each here a) ≡ then here (f a)) → (n at : ℕ) → f (walk each end p n at) ≡ walk then (f end) p n at
+unfolding walk
 through f each then end p same zero at = refl
 through {B = B} f each then end p same (suc n) at =
     either (good p at)
     (λ (t : good p at ≡ true).
-    simp t (same at (bracket_walk each end p n (after_bracket p at)) ∙ ap (then at) (through f each then end p same n (after_bracket p at))))
+    simp t (same at (walk each end p n (next_at p at)) ∙ ap (then at) (through f each then end p same n (next_at p at))))
     (λ (t : good p at ≡ false). simp t)
 
 -- the body of a bracket record that stands somewhere
 there_body : (w : List ℕ) → 4 < length w → (pre inner rest : List ℕ) → w ≡ pre ++ (bracket_of inner ++ rest) → map (bytes_of w) (body_at w (length pre)) ≡ body_in inner
 unfolding body_in bracket_of
-there_body w long pre [] rest is = simp (le-ltb 1 (bracket_length w (length pre)) (omega (arith, there_length w long pre [] rest is)))
+there_body w long pre [] rest is = simp (le-ltb 1 (length_at w (length pre)) (omega (arith, there_length w long pre [] rest is)))
 there_body w long pre (skipped ∷ body) rest is =
-    let n : bracket_length w (length pre) ≡ length (skipped ∷ body) + 1 = there_length w long pre (skipped ∷ body) rest is in
-    simp (lt-ltb 1 (bracket_length w (length pre)) (omega arith))
+    let n : length_at w (length pre) ≡ length (skipped ∷ body) + 1 = there_length w long pre (skipped ∷ body) rest is in
+    simp (lt-ltb 1 (length_at w (length pre)) (omega arith))
     (ap (λ (b : List ℕ). b ∷ [])
-    (ap (λ (k : ℕ). take k (drop (length pre + 3) w)) {x = bracket_length w (length pre) - 2} {y = length body} (omega arith) ∙ stands))
+    (ap (λ (k : ℕ). take k (drop (length pre + 3) w)) {x = length_at w (length pre) - 2} {y = length body} (omega arith) ∙ stands))
   where
     stands : take (length body) (drop (length pre + 3) w) ≡ body
     stands =
@@ -123,7 +123,7 @@ module _ (w : List ℕ) (long : 4 < length w) where
   with_bytes : ℕ → List (List ℕ) → List (List ℕ)
   with_bytes here l = map (bytes_of w) (body_at w here) ++ l
 
-  as_bytes : contents w ≡ bracket_walk with_bytes [] w (length w) 0
+  as_bytes : contents w ≡ walk with_bytes [] w (length w) 0
   unfolding contents bodies_from with_bytes
   as_bytes =
       through (map (bytes_of w)) (λ (here : ℕ) (l : List Piece). body_at w here ++ l) with_bytes [] w
@@ -146,7 +146,7 @@ by_place [] h k = omega arith
 by_place (x ∷ l) h zero = h x (Memᴰ.head refl)
 by_place (x ∷ l) h (suc k) = by_place l (λ (y : ℕ) (m : Memᴰ y l). h y (Memᴰ.tail m)) k
 
-bracket_bytes : (i : List ℕ) → InnerBytes i → (x : ℕ) → Memᴰ x (bracket_of i) → x < 256
+bracket_bytes : (i : List ℕ) → Bytes i → (x : ℕ) → Memᴰ x (bracket_of i) → x < 256
 unfolding bracket_of
 bracket_bytes i b x m =
     ⊎_elim (λ (e : x ≡ 0x5B). omega arith)
@@ -157,7 +157,7 @@ bracket_bytes i b x m =
     (Memᴰ.cases_cons k))
     (Memᴰ.cases_cons m)
 
-pub made_bytes : (inners : List (List ℕ)) → ((i : List ℕ) → Memᴰ i inners → InnerBytes i) → (k : ℕ) → get_or (flat_map bracket_of inners) k 0 < 256
+pub made_bytes : (inners : List (List ℕ)) → ((i : List ℕ) → Memᴰ i inners → Bytes i) → (k : ℕ) → get_or (flat_map bracket_of inners) k 0 < 256
 made_bytes inners h =
     by_place (flat_map bracket_of inners)
     (flat_each (λ (x : ℕ). x < 256) bracket_of inners (λ (i : List ℕ) (m : Memᴰ i inners). bracket_bytes i (h i m)))

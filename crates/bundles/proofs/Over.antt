@@ -10,18 +10,18 @@ use mathlib.Core.Path.{◌≡◌, refl, sym, ap, ◌∙◌}
 use native.Mathlib.Nat.{add-zero, add_assoc}
 use native.Mathlib.Omega.{arith}
 use borrow.Author.Tests.{ltb-true, ltb-false, lt-ltb, le-ltb}
-use Rattle.lemmas.proofs.Choice.{left_true, either}
-use Rattle.bracket.specs.Bracket.{bracket_length, close_at, after_bracket, good, bracket_walk}
+use Rattle.choice.proofs.Choice.{left_true, either}
+use Rattle.bracket.specs.Bracket.{length_at, close_at, next_at, good, walk}
 use Rattle.bracket.proofs.Walks.{enough, unrolled}
 use Rattle.bracket.proofs.Splitting.{good_fits}
-use Rattle.bundles.specs.Bundles.{size_at, taken_bytes}
+use Rattle.bundles.specs.Bundles.{size_at, taken}
 
 -- the record test, by what it reads
 tested : Bool → Bool → ℕ → ℕ → ℕ → Bool
 tested long fits opened closed size = long && (fits && (eqb opened 0x5B && (eqb closed 0x5D && ltb 0 size)))
 
 good_is : (p : List ℕ) (at : ℕ)
-    → good p at ≡ tested (ltb 4 (length p)) (ltb (close_at p at) (length p)) (get_or p at 0) (get_or p (close_at p at) 0) (bracket_length p at)
+    → good p at ≡ tested (ltb 4 (length p)) (ltb (close_at p at) (length p)) (get_or p at 0) (get_or p (close_at p at) 0) (length_at p at)
 unfolding good tested
 good_is p at = refl
 
@@ -45,7 +45,7 @@ module _ (p q : List ℕ) where
     fits : close_at p at < length p
     fits = good_fits p at g
 
-    pub same_length : bracket_length (p ++ q) at ≡ bracket_length p at
+    pub same_length : length_at (p ++ q) at ≡ length_at p at
     same_length = get_or-append p q 0 (at + 1) (omega (arith, fits))
 
     good_first : good (p ++ q) at ≡ true
@@ -61,7 +61,7 @@ module _ (p q : List ℕ) where
         ∙ g
 
   -- the second's bytes, and its bracket records
-  pub later_length : (k : ℕ) → bracket_length (p ++ q) (length p + k) ≡ bracket_length q k
+  pub later_length : (k : ℕ) → length_at (p ++ q) (length p + k) ≡ length_at q k
   later_length k = ap (λ (i : ℕ). get_or (p ++ q) i 0) (add_assoc (length p) k 1) ∙ get_or-append-add p q (k + 1) 0
 
   later_close : (k : ℕ) → close_at (p ++ q) (length p + k) ≡ length p + close_at q k
@@ -83,22 +83,22 @@ module _ (p q : List ℕ) where
   -- the walk over the second: what it comes to there is `f` of what it comes to alone
   module _ {A B : Type 0} (each : ℕ → A → A) (end : A) (both : ℕ → B → B) (f : A → B) (long : 4 < length q)
       (same : (k : ℕ) (a : A) → both (length p + k) (f a) ≡ f (each k a)) where
-    second_walk : (n k : ℕ) → bracket_walk both (f end) (p ++ q) n (length p + k) ≡ f (bracket_walk each end q n k)
-    unfolding bracket_walk
+    second_walk : (n k : ℕ) → walk both (f end) (p ++ q) n (length p + k) ≡ f (walk each end q n k)
+    unfolding walk
     second_walk zero k = refl
     second_walk (suc n) k =
         either (good q k)
         (λ (t : good q k ≡ true).
         simp (good_second long k ∙ t, t)
-        (ap (λ (to : ℕ). both (length p + k) (bracket_walk both (f end) (p ++ q) n to)) {x = after_bracket (p ++ q) (length p + k)} {y = length p + after_bracket q k} (omega (arith, later_length k))
-        ∙ ap (both (length p + k)) (second_walk n (after_bracket q k))
-        ∙ same k (bracket_walk each end q n (after_bracket q k))))
+        (ap (λ (to : ℕ). both (length p + k) (walk both (f end) (p ++ q) n to)) {x = next_at (p ++ q) (length p + k)} {y = length p + next_at q k} (omega (arith, later_length k))
+        ∙ ap (both (length p + k)) (second_walk n (next_at q k))
+        ∙ same k (walk each end q n (next_at q k))))
         (λ (t : good q k ≡ false). simp (good_second long k ∙ t, t))
 
-    pub second : bracket_walk both (f end) (p ++ q) (length (p ++ q)) (length p) ≡ f (bracket_walk each end q (length q) 0)
+    pub second : walk both (f end) (p ++ q) (length (p ++ q)) (length p) ≡ f (walk each end q (length q) 0)
     second =
         enough both (f end) (p ++ q) (length (p ++ q)) (length q) (length p) (omega arith) (omega (arith, length-append p q))
-        ∙ ap (bracket_walk both (f end) (p ++ q) (length q)) (sym (add-zero (length p)))
+        ∙ ap (walk both (f end) (p ++ q) (length q)) (sym (add-zero (length p)))
         ∙ second_walk (length q) 0
 
   -- the walk over the first, and what comes after it: the walk over both from the place where the first's good records stop
@@ -108,23 +108,23 @@ module _ (p q : List ℕ) where
   module _ {A : Type 0} (each both : ℕ → A → A) (end : A)
       (same : (here : ℕ) → good p here ≡ true → (a : A) → both here a ≡ each here a) where
     abbrev from : ℕ → A
-    from at = bracket_walk both end (p ++ q) (length (p ++ q)) at
+    from at = walk both end (p ++ q) (length (p ++ q)) at
 
-    first_walk : (n at : ℕ) → from at ≡ bracket_walk each (from (bracket_walk size 0 p n at + at)) p n at
-    unfolding bracket_walk
+    first_walk : (n at : ℕ) → from at ≡ walk each (from (walk size 0 p n at + at)) p n at
+    unfolding walk
     first_walk zero at = ap from (omega arith)
     first_walk (suc n) at =
         either (good p at)
         (λ (t : good p at ≡ true).
-        let rest = bracket_walk size 0 p n (after_bracket p at) in
+        let rest = walk size 0 p n (next_at p at) in
         unrolled both end (p ++ q) at
         ∙ simp (good_first at t, t)
         (ap (λ (l : ℕ). both at (from (at + 1 + l + 1))) (same_length at t)
-        ∙ ap (both at) (first_walk n (after_bracket p at))
-        ∙ ap (λ (k : ℕ). both at (bracket_walk each (from k) p n (after_bracket p at))) {x = rest + after_bracket p at} {y = size at rest + at} (omega arith)
+        ∙ ap (both at) (first_walk n (next_at p at))
+        ∙ ap (λ (k : ℕ). both at (walk each (from k) p n (next_at p at))) {x = rest + next_at p at} {y = size at rest + at} (omega arith)
         ∙ same at t _))
         (λ (t : good p at ≡ false). simp t (ap from {x = at} {y = 0 + at} (omega arith)))
 
-    pub first : from 0 ≡ bracket_walk each (from (taken_bytes p)) p (length p) 0
-    unfolding taken_bytes
-    first = first_walk (length p) 0 ∙ ap (λ (k : ℕ). bracket_walk each (from k) p (length p) 0) (add-zero _)
+    pub first : from 0 ≡ walk each (from (taken p)) p (length p) 0
+    unfolding taken
+    first = first_walk (length p) 0 ∙ ap (λ (k : ℕ). walk each (from k) p (length p) 0) (add-zero _)

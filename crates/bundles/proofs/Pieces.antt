@@ -8,26 +8,26 @@ use mathlib.Core.List.{List, [], ◌∷◌, ◌++◌, Memᴰ}
 use mathlib.Core.Logic.{⊎_elim}
 use mathlib.Core.Path.{◌≡◌, sym, subst}
 use native.Mathlib.Omega.{arith}
-use Rattle.lemmas.proofs.Choice.{by_choice}
-use Rattle.bracket.specs.Bracket.{bracket_length, after_bracket, good, Piece, body_at, bracket_walk, bodies_from}
+use Rattle.choice.proofs.Choice.{by_choice}
+use Rattle.bracket.specs.Bracket.{length_at, next_at, good, Piece, body_at, walk, bodies_from}
 
 module _ (p : List ℕ) (P : Piece → Type 0) where
   abbrev body_of : ℕ → Piece
-  body_of at = record { at = at + 3; len = bracket_length p at - 2 }
+  body_of at = record { at = at + 3; len = length_at p at - 2 }
 
   each_walk : (n at : ℕ) → ((here : ℕ) → at ≤ here → good p here ≡ true → P (body_of here))
-      → (b : Piece) → Memᴰ b (bracket_walk (λ (here : ℕ) (rest : List Piece). body_at p here ++ rest) [] p n at) → P b
-  unfolding bracket_walk
+      → (b : Piece) → Memᴰ b (walk (λ (here : ℕ) (rest : List Piece). body_at p here ++ rest) [] p n at) → P b
+  unfolding walk
   each_walk zero at h b = λ (m : Memᴰ b []). absurd (Memᴰ.not-nil m)
   each_walk (suc n) at h b =
-      let later = bracket_walk (λ (here : ℕ) (rest : List Piece). body_at p here ++ rest) [] p n (after_bracket p at) in
+      let later = walk (λ (here : ℕ) (rest : List Piece). body_at p here ++ rest) [] p n (next_at p at) in
       by_choice Has (good p at) {a = body_at p at ++ later} {b = []}
       (λ (g : good p at ≡ true) (m : Memᴰ b (body_at p at ++ later)).
       ⊎_elim
-      (by_choice Has (ltb 1 (bracket_length p at)) {a = body_of at ∷ []} {b = []}
-      (λ (t : ltb 1 (bracket_length p at) ≡ true) (k : Memᴰ b (body_of at ∷ [])). subst P (sym (Memᴰ.eq_of_singleton k)) (h at (omega arith) g))
-      (λ (t : ltb 1 (bracket_length p at) ≡ false) (k : Memᴰ b []). absurd (Memᴰ.not-nil k)))
-      (each_walk n (after_bracket p at) (λ (here : ℕ) (l : after_bracket p at ≤ here). h here (omega arith)) b)
+      (by_choice Has (ltb 1 (length_at p at)) {a = body_of at ∷ []} {b = []}
+      (λ (t : ltb 1 (length_at p at) ≡ true) (k : Memᴰ b (body_of at ∷ [])). subst P (sym (Memᴰ.eq_of_singleton k)) (h at (omega arith) g))
+      (λ (t : ltb 1 (length_at p at) ≡ false) (k : Memᴰ b []). absurd (Memᴰ.not-nil k)))
+      (each_walk n (next_at p at) (λ (here : ℕ) (l : next_at p at ≤ here). h here (omega arith)) b)
       (Memᴰ.append_cases (body_at p at) m))
       (λ (g : good p at ≡ false) (m : Memᴰ b []). absurd (Memᴰ.not-nil m))
     where

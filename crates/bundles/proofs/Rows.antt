@@ -7,9 +7,9 @@ use mathlib.Core.List.{List, [], ◌∷◌, ◌++◌, map}
 use mathlib.Core.Path.{◌≡◌, refl, sym, ap, ◌∙◌}
 use native.Mathlib.Omega.{arith}
 use Rattle.layout.specs.Layout.{payload_part}
-use Rattle.layout.specs.Fields.{kind_at, outgoing_at, length_at, payload_at}
+use Rattle.layout.specs.Fields.{kind_at, outgoing_at, length_at}
 use Rattle.rows.specs.Frames.{Placed, pti_from}
-use Rattle.rows.specs.Rows.{numbered, rows_at}
+use Rattle.rows.specs.Rows.{payload_at, numbered, rows_at}
 use Rattle.rows.proofs.Inside.{AllIn, pti_by}
 use Rattle.rows.proofs.Walk.{is_pti_lem}
 use Rattle.bundles.specs.Bundles.{Consumed}

@@ -9,12 +9,12 @@ use mathlib.Core.List.{List, [], ◌++◌, append_assoc, map, map-append, map-ma
 use mathlib.Core.Path.{◌≡◌, refl, sym, ap, ◌∙◌}
 use native.Mathlib.Nat.{add_assoc}
 use native.Mathlib.Omega.{arith}
-use Rattle.lemmas.proofs.Choice.{either}
-use Rattle.lemmas.proofs.Flat.{map_same}
-use Rattle.bracket.specs.Bracket.{bracket_length, after_bracket, good, Piece, body_at, bracket_walk, bodies_from, bodies}
+use Rattle.choice.proofs.Choice.{either}
+use Rattle.choice.proofs.Flat.{map_same}
+use Rattle.bracket.specs.Bracket.{length_at, next_at, good, Piece, body_at, walk, bodies_from, bodies}
 use Rattle.bracket.proofs.Walks.{too_short, unrolled}
 use Rattle.bracket.proofs.Splitting.{bodies_inside}
-use Rattle.bundles.specs.Bundles.{taken_bytes, bytes_of, contents, moved_by, Kept, KeptPlaces}
+use Rattle.bundles.specs.Bundles.{taken, bytes_of, contents, moved_by, Kept, KeptPlaces}
 use Rattle.bundles.proofs.Over.{same_length, later_length, first, second}
 
 -- 4 bytes or fewer hold nothing
@@ -28,17 +28,17 @@ short_contents p short = ap (map (bytes_of p)) (short_bodies p short)
 
 -- what follows a walk that joins lists comes last
 list_end : {A : Type 0} (p : List ℕ) (each : ℕ → List A) (more : List A) (n at : ℕ)
-    → bracket_walk (λ (here : ℕ) (rest : List A). each here ++ rest) more p n at ≡ bracket_walk (λ (here : ℕ) (rest : List A). each here ++ rest) [] p n at ++ more
-unfolding bracket_walk
+    → walk (λ (here : ℕ) (rest : List A). each here ++ rest) more p n at ≡ walk (λ (here : ℕ) (rest : List A). each here ++ rest) [] p n at ++ more
+unfolding walk
 list_end p each more zero at = refl
 list_end {A = A} p each more (suc n) at =
     either (good p at)
-    (λ (t : good p at ≡ true). simp t (ap (λ (r : List A). each at ++ r) (list_end p each more n (after_bracket p at)) ∙ sym (append_assoc (each at) _ more)))
+    (λ (t : good p at ≡ true). simp t (ap (λ (r : List A). each at ++ r) (list_end p each more n (next_at p at)) ∙ sym (append_assoc (each at) _ more)))
     (λ (t : good p at ≡ false). simp t)
 
 module _ (p q : List ℕ) where
   -- with no premise
-  pub split_on : bodies (p ++ q) ≡ bodies p ++ bodies_from (p ++ q) (taken_bytes p)
+  pub split_on : bodies (p ++ q) ≡ bodies p ++ bodies_from (p ++ q) (taken p)
   unfolding bodies_from
   split_on =
       first p q (λ (here : ℕ) (l : List Piece). body_at p here ++ l) (λ (here : ℕ) (l : List Piece). body_at (p ++ q) here ++ l) []
@@ -63,12 +63,12 @@ module _ (p q : List ℕ) where
       ∙ map_same (λ (b : Piece). bytes_of (p ++ q) (moved_by (length p) b)) (bytes_of q) l
       (λ (b : Piece) (m : Memᴰ b l). ap (take b.len) (drop-append-add p q b.at))
 
-  pub contents_on : contents (p ++ q) ≡ contents p ++ map (bytes_of (p ++ q)) (bodies_from (p ++ q) (taken_bytes p))
+  pub contents_on : contents (p ++ q) ≡ contents p ++ map (bytes_of (p ++ q)) (bodies_from (p ++ q) (taken p))
   unfolding contents
   contents_on =
       ap (map (bytes_of (p ++ q))) split_on
-      ∙ map-append (bytes_of (p ++ q)) (bodies p) (bodies_from (p ++ q) (taken_bytes p))
-      ∙ ap (λ (l : List (List ℕ)). l ++ map (bytes_of (p ++ q)) (bodies_from (p ++ q) (taken_bytes p))) first_bytes
+      ∙ map-append (bytes_of (p ++ q)) (bodies p) (bodies_from (p ++ q) (taken p))
+      ∙ ap (λ (l : List (List ℕ)). l ++ map (bytes_of (p ++ q)) (bodies_from (p ++ q) (taken p))) first_bytes
 
   -- what is kept as places is kept as bytes
   pub places_kept : KeptPlaces p q → Kept p q
@@ -83,9 +83,9 @@ module _ (p q : List ℕ) where
     moved_body : (k : ℕ) (l : List Piece) → body_at (p ++ q) (length p + k) ++ map (moved_by (length p)) l ≡ map (moved_by (length p)) (body_at q k ++ l)
     moved_body k l =
         rw (later_length p q k)
-        (either (ltb 1 (bracket_length q k))
-        (λ (t : ltb 1 (bracket_length q k) ≡ true). simp (t, add_assoc (length p) k 3))
-        (λ (t : ltb 1 (bracket_length q k) ≡ false). simp t))
+        (either (ltb 1 (length_at q k))
+        (λ (t : ltb 1 (length_at q k) ≡ true). simp (t, add_assoc (length p) k 3))
+        (λ (t : ltb 1 (length_at q k) ≡ false). simp t))
 
     pub second_bodies : bodies_from (p ++ q) (length p) ≡ map (moved_by (length p)) (bodies q)
     unfolding bodies_from
@@ -94,6 +94,6 @@ module _ (p q : List ℕ) where
         (map (moved_by (length p))) long moved_body
 
   -- where the first's good records take all of it
-  module _ (all : taken_bytes p ≡ length p) where
+  module _ (all : taken p ≡ length p) where
     pub first_bodies : bodies (p ++ q) ≡ bodies p ++ bodies_from (p ++ q) (length p)
     first_bodies = split_on ∙ ap (λ (k : ℕ). bodies p ++ bodies_from (p ++ q) k) all

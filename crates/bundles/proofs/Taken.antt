@@ -9,10 +9,10 @@ use mathlib.Core.Path.{◌≡◌, refl, sym, ap, ◌∙◌}
 use native.Mathlib.Numerals.{add-one}
 use native.Mathlib.Omega.{arith}
 use borrow.Author.Tests.{ltb-true, eqb-true}
-use Rattle.lemmas.proofs.Choice.{either, left_true, right_true}
-use Rattle.bracket.specs.Bracket.{bracket_length, close_at, after_bracket, good, bracket_walk}
+use Rattle.choice.proofs.Choice.{either, left_true, right_true}
+use Rattle.bracket.specs.Bracket.{length_at, close_at, next_at, good, walk}
 use Rattle.bracket.proofs.Splitting.{good_fits}
-use Rattle.bundles.specs.Bundles.{bracket_of, Consumed, size_at, taken_bytes}
+use Rattle.bundles.specs.Bundles.{bracket_of, Consumed, size_at, taken}
 
 last_three : (a b c d e : Bool) → (a && (b && (c && (d && e)))) ≡ true → (c ≡ true) × (d ≡ true) × (e ≡ true)
 last_three a b c d e h =
@@ -23,15 +23,15 @@ last_three a b c d e h =
 -- what a good bracket record is made of, and that it is
 module _ (p : List ℕ) where
   abbrev pub inner_at : ℕ → List ℕ
-  inner_at at = take (bracket_length p at - 1) (drop (at + 2) p)
+  inner_at at = take (length_at p at - 1) (drop (at + 2) p)
 
   abbrev inners_from : ℕ → ℕ → List (List ℕ)
-  inners_from n at = bracket_walk (λ (here : ℕ) (rest : List (List ℕ)). inner_at here ∷ rest) [] p n at
+  inners_from n at = walk (λ (here : ℕ) (rest : List (List ℕ)). inner_at here ∷ rest) [] p n at
 
   module _ (at : ℕ) (g : good p at ≡ true) where
-    said : (eqb (get_or p at 0) 0x5B ≡ true) × (eqb (get_or p (close_at p at) 0) 0x5D ≡ true) × (ltb 0 (bracket_length p at) ≡ true)
+    said : (eqb (get_or p at 0) 0x5B ≡ true) × (eqb (get_or p (close_at p at) 0) 0x5D ≡ true) × (ltb 0 (length_at p at) ≡ true)
     unfolding good
-    said = last_three (ltb 4 (length p)) (ltb (close_at p at) (length p)) (eqb (get_or p at 0) 0x5B) (eqb (get_or p (close_at p at) 0) 0x5D) (ltb 0 (bracket_length p at)) g
+    said = last_three (ltb 4 (length p)) (ltb (close_at p at) (length p)) (eqb (get_or p at 0) 0x5B) (eqb (get_or p (close_at p at) 0) 0x5D) (ltb 0 (length_at p at)) g
 
     pub opened : get_or p at 0 ≡ 0x5B
     opened = eqb-true (get_or p at 0) 0x5B said.0
@@ -39,48 +39,48 @@ module _ (p : List ℕ) where
     pub closed : get_or p (close_at p at) 0 ≡ 0x5D
     closed = eqb-true (get_or p (close_at p at) 0) 0x5D said.1
 
-    pub some : 0 < bracket_length p at
-    some = ltb-true 0 (bracket_length p at) said.2
+    pub some : 0 < length_at p at
+    some = ltb-true 0 (length_at p at) said.2
 
-    pub inner_size : length (inner_at at) ≡ bracket_length p at - 1
-    inner_size = length-take-le (bracket_length p at - 1) (drop (at + 2) p) (omega (arith, length-drop (at + 2) p, good_fits p at g, some))
+    pub inner_size : length (inner_at at) ≡ length_at p at - 1
+    inner_size = length-take-le (length_at p at - 1) (drop (at + 2) p) (omega (arith, length-drop (at + 2) p, good_fits p at g, some))
 
     -- from 0x5D on, and from the skipped byte on
-    from_close : drop (bracket_length p at - 1) (drop (at + 2) p) ≡ 0x5D ∷ drop (after_bracket p at) p
+    from_close : drop (length_at p at - 1) (drop (at + 2) p) ≡ 0x5D ∷ drop (next_at p at) p
     from_close =
-        drop-drop (bracket_length p at - 1) (at + 2) p
-        ∙ ap (λ (k : ℕ). drop k p) {x = at + 2 + (bracket_length p at - 1)} {y = close_at p at} (omega (arith, some))
+        drop-drop (length_at p at - 1) (at + 2) p
+        ∙ ap (λ (k : ℕ). drop k p) {x = at + 2 + (length_at p at - 1)} {y = close_at p at} (omega (arith, some))
         ∙ drop-cons p (close_at p at) 0 (good_fits p at g)
         ∙ rw (closed, sym (add-one (close_at p at))) refl
 
-    pub one_record : drop at p ≡ bracket_of (inner_at at) ++ drop (after_bracket p at) p
+    pub one_record : drop at p ≡ bracket_of (inner_at at) ++ drop (next_at p at) p
     unfolding bracket_of
     one_record =
         drop-cons p at 0 (omega (arith, good_fits p at g))
         ∙ ap (λ (l : List ℕ). get_or p at 0 ∷ l)
         (ap (λ (k : ℕ). drop k p) {x = suc at} {y = at + 1} (omega arith)
         ∙ drop-cons p (at + 1) 0 (omega (arith, good_fits p at g, some))
-        ∙ ap (λ (l : List ℕ). bracket_length p at ∷ l)
+        ∙ ap (λ (l : List ℕ). length_at p at ∷ l)
         (ap (λ (k : ℕ). drop k p) {x = suc (at + 1)} {y = at + 2} (omega arith)
-        ∙ sym (take-append-drop (bracket_length p at - 1) (drop (at + 2) p))
+        ∙ sym (take-append-drop (length_at p at - 1) (drop (at + 2) p))
         ∙ ap (λ (l : List ℕ). inner_at at ++ l) from_close
-        ∙ sym (append_assoc (inner_at at) (0x5D ∷ []) (drop (after_bracket p at) p))))
-        ∙ ap (λ (x : ℕ). x ∷ (bracket_length p at ∷ ((inner_at at ++ (0x5D ∷ [])) ++ drop (after_bracket p at) p))) opened
-        ∙ ap (λ (x : ℕ). 0x5B ∷ (x ∷ ((inner_at at ++ (0x5D ∷ [])) ++ drop (after_bracket p at) p))) {x = bracket_length p at} {y = length (inner_at at) + 1} (omega (arith, inner_size, some))
+        ∙ sym (append_assoc (inner_at at) (0x5D ∷ []) (drop (next_at p at) p))))
+        ∙ ap (λ (x : ℕ). x ∷ (length_at p at ∷ ((inner_at at ++ (0x5D ∷ [])) ++ drop (next_at p at) p))) opened
+        ∙ ap (λ (x : ℕ). 0x5B ∷ (x ∷ ((inner_at at ++ (0x5D ∷ [])) ++ drop (next_at p at) p))) {x = length_at p at} {y = length (inner_at at) + 1} (omega (arith, inner_size, some))
 
-  made_back : (n at : ℕ) → bracket_walk (λ (here rest : ℕ). size_at p here + rest) 0 p n at + at ≡ length p → drop at p ≡ flat_map bracket_of (inners_from n at)
-  unfolding bracket_walk flat_map
+  made_back : (n at : ℕ) → walk (λ (here rest : ℕ). size_at p here + rest) 0 p n at + at ≡ length p → drop at p ≡ flat_map bracket_of (inners_from n at)
+  unfolding walk flat_map
   made_back zero at h = ap (λ (k : ℕ). drop k p) {x = at} {y = length p} (omega arith) ∙ drop-length p
   made_back (suc n) at h =
       either (good p at)
       (λ (t : good p at ≡ true).
-      let k : size_at p at + bracket_walk (λ (here rest : ℕ). size_at p here + rest) 0 p n (after_bracket p at) + at ≡ length p = simp t at h in
-      simp t (one_record at t ∙ ap (λ (l : List ℕ). bracket_of (inner_at at) ++ l) (made_back n (after_bracket p at) (omega arith))))
+      let k : size_at p at + walk (λ (here rest : ℕ). size_at p here + rest) 0 p n (next_at p at) + at ≡ length p = simp t at h in
+      simp t (one_record at t ∙ ap (λ (l : List ℕ). bracket_of (inner_at at) ++ l) (made_back n (next_at p at) (omega arith))))
       (λ (t : good p at ≡ false).
       let k : 0 + at ≡ length p = simp t at h in
       simp t (ap (λ (i : ℕ). drop i p) {x = at} {y = length p} (omega arith) ∙ drop-length p))
 
   -- where the splitter takes all of a payload, it is made of bracket records
-  pub all_taken : taken_bytes p ≡ length p → Consumed p
-  unfolding taken_bytes
+  pub all_taken : taken p ≡ length p → Consumed p
+  unfolding taken
   all_taken h = record { inners = inners_from (length p) 0; made = made_back (length p) 0 (omega arith) }

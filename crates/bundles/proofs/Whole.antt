@@ -11,9 +11,9 @@ use native.Mathlib.Nat.{zero-add}
 use native.Mathlib.Decide.{dec_le}
 use native.Mathlib.Omega.{arith}
 use borrow.Author.Tests.{le-ltb, eqb-true, ne_eqb}
-use Rattle.lemmas.proofs.Choice.{left_true, right_true, either}
-use Rattle.lemmas.proofs.Flat.{map_same}
-use Rattle.bracket.specs.Bracket.{bracket_length, after_bracket, good, Piece, body_at, bodies_from, bodies}
+use Rattle.choice.proofs.Choice.{left_true, right_true, either}
+use Rattle.choice.proofs.Flat.{map_same}
+use Rattle.bracket.specs.Bracket.{length_at, next_at, good, Piece, body_at, bodies_from, bodies}
 use Rattle.bracket.proofs.Walks.{past, is_good, unrolled}
 use Rattle.bundles.specs.Bundles.{bracket_of, Consumed, bytes_of, contents, moved_by, Kept, KeptPlaces, empty_record, empty_body, beside, NoneGains, Whole}
 use Rattle.bundles.proofs.Made.{bracket_size, there_length, there_good, taken_all}
@@ -133,11 +133,11 @@ module _ (p q : List ℕ) (short : length q ≤ 4) where
   unfolding bodies_from
   empty_second x e long =
       let is : p ++ q ≡ p ++ (bracket_of (x ∷ []) ++ []) = ap (λ (l : List ℕ). p ++ l) (e ∙ sym (append-nil (bracket_of (x ∷ [])))) in
-      let rest = bodies_from (p ++ q) (after_bracket (p ++ q) (length p)) in
+      let rest = bodies_from (p ++ q) (next_at (p ++ q) (length p)) in
       unrolled each [] (p ++ q) (length p)
       ∙ simp (there_good (p ++ q) long p (x ∷ []) [] is)
       (ap (λ (l : ℕ). cond (ltb 1 l) (record { at = length p + 3; len = l - 2 } ∷ []) [] ++ rest) (there_length (p ++ q) long p (x ∷ []) [] is)
-      ∙ ap (λ (l : List Piece). record { at = length p + 3; len = 0 } ∷ l) (late (after_bracket (p ++ q) (length p)) (omega (arith, there_length (p ++ q) long p (x ∷ []) [] is))))
+      ∙ ap (λ (l : List Piece). record { at = length p + 3; len = 0 } ∷ l) (late (next_at (p ++ q) (length p)) (omega (arith, there_length (p ++ q) long p (x ∷ []) [] is))))
 
   module _ (other : Other q) where
     only_bare : (inner rest : List ℕ) → q ≡ bracket_of inner ++ rest → length inner ≡ 0
@@ -153,13 +153,13 @@ module _ (p q : List ℕ) (short : length q ≤ 4) where
         unrolled each [] (p ++ q) (length p)
         ∙ either (good (p ++ q) (length p))
         (λ (t : good (p ++ q) (length p) ≡ true).
-        let is : q ≡ bracket_of (inner_at (p ++ q) (length p)) ++ drop (after_bracket (p ++ q) (length p)) (p ++ q) =
+        let is : q ≡ bracket_of (inner_at (p ++ q) (length p)) ++ drop (next_at (p ++ q) (length p)) (p ++ q) =
         sym (drop-append_seam p q) ∙ one_record (p ++ q) (length p) t
         in
-        let one : bracket_length (p ++ q) (length p) ≡ 1 =
+        let one : length_at (p ++ q) (length p) ≡ 1 =
         omega (arith, only_bare (inner_at (p ++ q) (length p)) _ is, inner_size (p ++ q) (length p) t, some (p ++ q) (length p) t)
         in
-        simp (t, le-ltb 1 (bracket_length (p ++ q) (length p)) (omega arith)) (late (after_bracket (p ++ q) (length p)) (omega arith)))
+        simp (t, le-ltb 1 (length_at (p ++ q) (length p)) (omega arith)) (late (next_at (p ++ q) (length p)) (omega arith)))
         (λ (t : good (p ++ q) (length p) ≡ false). simp t)
 
 other_second : (p q : List ℕ) → Other q → Second p q (bodies q)

@@ -1,7 +1,7 @@
 -- PTI payloads joined one after the other, and what splitting gives: 02's request 12.
 use Rattle.std.specs.Prelude.{ℕ, ◌+◌, ◌<◌, eqb, length, get_or, take, drop, Bool, false, ◌&&◌, cond, ◌≡◌}
 use mathlib.Core.List.{List, [], ◌∷◌, ◌++◌, map, flat_map, Memᴰ}
-use Rattle.bracket.specs.Bracket.{bracket_length, Piece, bracket_walk, bodies}
+use Rattle.bracket.specs.Bracket.{length_at, Piece, walk, bodies}
 
 -- 01: "each record is 0x5B, a length L, one skipped byte, a body of L - 2 bytes, 0x5D"; "L = 1 with 0x5D after it is passed over without a body". A good
 -- bracket record by what stands between its L and its 0x5D: the skipped byte and the body, or nothing where L is 1
@@ -14,8 +14,8 @@ body_in [] = []
 body_in (skipped ∷ body) = body ∷ []
 
 -- L is a byte, so that 254 bytes at most stand there, and a body has 253 at most (`Made-bytes` of proofs/Made.antt)
-abbrev pub InnerBytes : List ℕ → Type 0
-InnerBytes inner = (length inner < 255) × ((x : ℕ) → Memᴰ x inner → x < 256)
+abbrev pub Bytes : List ℕ → Type 0
+Bytes inner = (length inner < 255) × ((x : ℕ) → Memᴰ x inner → x < 256)
 
 -- 02: "consumed by good bracket records to its last byte": such records, one after the other, and nothing else
 pub record Consumed (payload : List ℕ) : Type 0 where
@@ -25,10 +25,10 @@ pub record Consumed (payload : List ℕ) : Type 0 where
 -- the same as the splitter has it. How many bytes a bracket record takes: 0x5B, L, and L bytes more; and how many those take that it meets, one after the
 -- other, up to the first bad one. A payload over 4 bytes is consumed exactly where they take all of it (`taken_all` of proofs/Made.antt, `all_taken` of Taken.antt)
 abbrev pub size_at : List ℕ → ℕ → ℕ
-size_at payload at = bracket_length payload at + 2
+size_at payload at = length_at payload at + 2
 
-unfoldable pub taken_bytes : List ℕ → ℕ
-taken_bytes payload = bracket_walk (λ (here rest : ℕ). size_at payload here + rest) 0 payload (length payload) 0
+unfoldable pub taken : List ℕ → ℕ
+taken payload = walk (λ (here rest : ℕ). size_at payload here + rest) 0 payload (length payload) 0
 
 -- a body's bytes, and those of all the bodies that splitting gives
 abbrev pub bytes_of : List ℕ → Piece → List ℕ
@@ -42,7 +42,7 @@ abbrev pub moved_by : ℕ → Piece → Piece
 moved_by far b = record { at = far + b.at; len = b.len }
 
 -- 02: "when both are longer than 4 bytes and the first is consumed by good bracket records to its last byte"
-pub record Bundled (p q : List ℕ) : Type 0 where
+pub record Premises (p q : List ℕ) : Type 0 where
   pub first_long : 4 < length p
   pub consumed : Consumed p
   pub second_long : 4 < length q
@@ -57,8 +57,8 @@ KeptPlaces p q = bodies (p ++ q) ≡ bodies p ++ map (moved_by (length p)) (bodi
 
 -- 02: "Grouping three such payloads either way gives the same": each way is two joins on the premises, and gives the bodies of the three in order
 pub record EitherWay (p q r : List ℕ) : Type 0 where
-  pub left : Bundled (p ++ q) r
-  pub right : Bundled p (q ++ r)
+  pub left : Premises (p ++ q) r
+  pub right : Premises p (q ++ r)
   pub left_kept : contents ((p ++ q) ++ r) ≡ contents p ++ (contents q ++ contents r)
   pub right_kept : contents (p ++ (q ++ r)) ≡ contents p ++ (contents q ++ contents r)
   pub same_places : bodies ((p ++ q) ++ r) ≡ bodies (p ++ (q ++ r))

@@ -6,8 +6,8 @@ abbrev pub one : List ℕ
 one = 0x5B ∷ 3 ∷ 0 ∷ 7 ∷ 0x5D ∷ []
 
 -- a bracket record without a body (L = 1), and one with an empty body
-abbrev pub bodiless : List ℕ
-bodiless = 0x5B ∷ 1 ∷ 0x5D ∷ 0x5B ∷ 2 ∷ 0 ∷ 0x5D ∷ []
+abbrev pub bare : List ℕ
+bare = 0x5B ∷ 1 ∷ 0x5D ∷ 0x5B ∷ 2 ∷ 0 ∷ 0x5D ∷ []
 
 -- a bracket record in 4 bytes, which alone hold nothing
 abbrev pub short : List ℕ
@@ -18,8 +18,8 @@ abbrev pub cut : List ℕ
 cut = 0x5B ∷ 4 ∷ 0 ∷ 7 ∷ 8 ∷ []
 
 -- a bad record at the end: its L is 0
-abbrev pub bad_at_end : List ℕ
-bad_at_end = 0x5B ∷ 1 ∷ 0x5D ∷ 0x5B ∷ 0 ∷ []
+abbrev pub bad : List ℕ
+bad = 0x5B ∷ 1 ∷ 0x5D ∷ 0x5B ∷ 0 ∷ []
 
 -- one more bracket record, which has no 0x5D where `one` has it
 abbrev pub other : List ℕ
@@ -34,12 +34,12 @@ abbrev pub beam : List ℕ
 beam = 2 ∷ (replicate 10 0 ++ (0xFC ∷ (replicate 236 0x55 ++ (0x_fd ∷ 1 ∷ 1 ∷ 6 ∷ 0 ∷ []))))
 
 -- a bracket record with that frame, of 257 bytes
-abbrev pub framed_beam : List ℕ
-framed_beam = 0x5B ∷ 255 ∷ 0 ∷ (beam ++ (0x5D ∷ []))
+abbrev pub framed : List ℕ
+framed = 0x5B ∷ 255 ∷ 0 ∷ (beam ++ (0x5D ∷ []))
 
 -- records of a trace with one such payload, and with two in one: ticks and properties of 0, the length, the payload, the end byte of a PTI record
 abbrev pub single : List ℕ
-single = replicate 9 0 ++ (1 ∷ 1 ∷ 0 ∷ 0 ∷ (framed_beam ++ (0xF5 ∷ [])))
+single = replicate 9 0 ++ (1 ∷ 1 ∷ 0 ∷ 0 ∷ (framed ++ (0xF5 ∷ [])))
 
 abbrev pub double : List ℕ
-double = replicate 9 0 ++ (2 ∷ 2 ∷ 0 ∷ 0 ∷ (framed_beam ++ (framed_beam ++ (0xF5 ∷ []))))
+double = replicate 9 0 ++ (2 ∷ 2 ∷ 0 ∷ 0 ∷ (framed ++ (framed ++ (0xF5 ∷ []))))

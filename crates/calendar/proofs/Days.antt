@@ -2,10 +2,10 @@
 use Prim.Native.Nat.{ℕ, ◌≤◌, ◌<◌}
 use borrow.Author.Tests.{le-leb, lt-leb, lt-ltb, le-ltb}
 use lib.Dec.{leb, ltb}
-use mathlib.Core.Bool.{true, false}
-use mathlib.Core.Path.{◌≡◌}
+use mathlib.Core.Bool.{Bool, true, false}
+use mathlib.Core.Path.{◌≡◌, sym, refl}
 use mathlib.Core.Option.{none, some}
-use Rattle.calendar.specs.Calendar.{month_length, is_day, is_time, millis_to, instant_of}
+use Rattle.calendar.specs.Calendar.{length_of, is_day, is_time, millis_to, instant_of}
 use Rattle.calendar.specs.declared.Date.{Date}
 
 module _ (year month day : ℕ) where
@@ -28,7 +28,7 @@ module _ (year month day : ℕ) where
           pub no_day : day < 1 → false ≡ is_day year month day
           no_day h = simp (le-leb 1 year y, le-leb year 9999 y9, le-leb 1 month m, le-leb month 12 m12, lt-leb 1 day h)
 
-          pub day_by_length : 1 ≤ day → (n : ℕ) → n ≡ month_length year month → leb day n ≡ is_day year month day
+          pub day_by_length : 1 ≤ day → (n : ℕ) → n ≡ length_of year month → leb day n ≡ is_day year month day
           day_by_length h n e = simp (le-leb 1 year y, le-leb year 9999 y9, le-leb 1 month m, le-leb month 12 m12, le-leb 1 day h, e)
 
 module _ (hour minute second milli : ℕ) where

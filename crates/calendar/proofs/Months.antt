@@ -1,6 +1,6 @@
 -- The days of the first months of a year: those that the code's table has, for a leap year too. Assumes nothing.
 use Prim.Native.Nat.{ℕ, ◌+◌, ◌-◌, ◌≤◌, ◌<◌}
-use borrow.Author.Tests.{eqb-true, leb-true, le-ltb}
+use borrow.Author.Tests.{eqb-true, leb-true, le-leb, lt-leb, le-ltb}
 use lib.Dec.{eqb, leb}
 use lib.ListN.{get_or}
 use mathlib.Core.Bool.{Bool, true, false, cond, ◌&&◌, false≢true}
@@ -8,7 +8,7 @@ use mathlib.Core.List.{List, [], ◌∷◌}
 use mathlib.Core.Path.{◌≡◌, refl, subst, ◌∙◌}
 use native.Mathlib.Numerals.{add-one}
 use native.Mathlib.Omega.{arith}
-use Rattle.calendar.specs.Calendar.{sum, days_before, month_days, first_passing, next_month_after}
+use Rattle.calendar.specs.Calendar.{sum, days_before, month_days, first_from, next_month_after}
 use Rattle.calendar.proofs.Searching.{below, on}
 
 unfoldable pub starts : List ℕ
@@ -44,7 +44,7 @@ unfolding days_before sum
 none_before leap = refl
 
 -- the search goes on by a month
-pub month_on : (leap : Bool) (day m : ℕ) → m < 11 → days_before leap (m + 1) ≤ day → first_passing (next_month_after leap day) (11 - m) m ≡ first_passing (next_month_after leap day) (11 - (m + 1)) (m + 1)
+pub month_on : (leap : Bool) (day m : ℕ) → m < 11 → days_before leap (m + 1) ≤ day → first_from (next_month_after leap day) (11 - m) m ≡ first_from (next_month_after leap day) (11 - (m + 1)) (m + 1)
 month_on leap day m h low =
     let q : 11 - m ≡ (10 - m) + 1 = omega arith in
     let p : 10 - m ≡ 11 - (m + 1) = omega arith in

@@ -2,7 +2,7 @@
 use Prim.Native.Nat.{ℕ}
 use mathlib.Core.Option.{Option, none, some}
 use mathlib.Core.Path.{◌≡◌, refl}
-use Rattle.lemmas.proofs.Only.{only}
+use Rattle.choice.proofs.Only.{only}
 use Rattle.calendar.specs.Calendar.{told_instant}
 use Rattle.calendar.specs.declared.Instant.{Instant}
 use Rattle.calendar.specs.declared.Instant.TheVariants.{At, Nothing}

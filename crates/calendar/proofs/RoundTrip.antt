@@ -2,12 +2,13 @@
 use Prim.Native.Nat.{ℕ, zero, suc, ◌+◌, ◌-◌, ◌*◌, ◌/◌, ◌%◌, ◌≤◌, ◌<◌}
 use borrow.Author.Tests.{ltb-true, ltb-false}
 use lib.Dec.{ltb}
-use mathlib.Core.Bool.{Bool}
-use mathlib.Core.Path.{◌≡◌}
+use mathlib.Core.Bool.{Bool, true, false}
+use mathlib.Core.Path.{◌≡◌, refl, sym, ap, subst, ◌∙◌}
+use native.Mathlib.Numerals.{add-one}
 use native.Mathlib.Omega.{arith}
-use Rattle.lemmas.proofs.Choice.{either}
+use Rattle.choice.proofs.Choice.{either}
 use Rattle.ticks.specs.Ticks.{days_of}
-use Rattle.calendar.specs.Calendar.{day_millis, first_passing, years_gone, leap_after, days_before, next_month_after, months_gone, day_of_year, month_of, dated, date_of, days_to, millis_to}
+use Rattle.calendar.specs.Calendar.{per_day, first_from, years_gone, leap_after, days_before, next_month_after, months_gone, day_of_year, month_of, dated, date_of, days_to, millis_to}
 use Rattle.calendar.proofs.Searching.{here, on, last}
 use Rattle.calendar.proofs.Years.{years_are}
 use Rattle.calendar.proofs.Months.{none_before}
@@ -41,7 +42,7 @@ year_low : (day : ℕ) → days_of (years_gone day) ≤ day
 year_low day = let a = around day in rw (years_are day a.years a.low a.high) a.low
 
 -- the month that a search ends with begins no later than the day
-month_from : (leap : Bool) (day turns n : ℕ) → days_before leap n ≤ day → days_before leap (first_passing (next_month_after leap day) turns n) ≤ day
+month_from : (leap : Bool) (day turns n : ℕ) → days_before leap n ≤ day → days_before leap (first_from (next_month_after leap day) turns n) ≤ day
 month_from leap day zero n h = rw (last (next_month_after leap day) n) h
 month_from leap day (suc turns) n h =
     either (next_month_after leap day n)
@@ -62,12 +63,12 @@ days_back day =
     let m = month_low (leap_after (years_gone day)) (day_of_year day) in
     rw (back (years_gone day)) (rw (back (month_of day)) (omega arith))
 
-time_back : (rest : ℕ) → rest < day_millis → 3600000 * (rest / 3600000) + 60000 * (rest / 60000 % 60) + 1000 * (rest / 1000 % 60) + rest % 1000 ≡ rest
+time_back : (rest : ℕ) → rest < per_day → 3600000 * (rest / 3600000) + 60000 * (rest / 60000 % 60) + 1000 * (rest / 1000 % 60) + rest % 1000 ≡ rest
 time_back rest h = omega arith
 
 pub there_and_back : (instant : ℕ) → millis_to (date_of instant) ≡ instant
 unfolding dated
 there_and_back i =
-    let d = days_back (i / day_millis) in
-    let t = time_back (i % day_millis) (omega arith) in
+    let d = days_back (i / per_day) in
+    let t = time_back (i % per_day) (omega arith) in
     rw d (rw t (omega arith))

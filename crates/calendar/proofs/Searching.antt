@@ -2,28 +2,28 @@
 use Prim.Native.Nat.{ℕ, zero, suc, ◌+◌, ◌≤◌, ◌<◌}
 use borrow.Author.Tests.{ltb-true, ltb-false}
 use lib.Dec.{ltb}
-use mathlib.Core.Bool.{Bool, true, false, ◌&&◌}
+use mathlib.Core.Bool.{Bool, true, false, cond, ◌&&◌}
 use mathlib.Core.Path.{◌≡◌, refl, sym, subst, ◌∙◌}
 use native.Mathlib.Nat.{not-suc-le-zero}
 use native.Mathlib.Omega.{arith}
-use Rattle.lemmas.proofs.Choice.{either, left_true, right_true}
-use Rattle.calendar.specs.Calendar.{first_passing}
+use Rattle.choice.proofs.Choice.{either, left_true, right_true}
+use Rattle.calendar.specs.Calendar.{first_from}
 
 module _ (test : ℕ → Bool) where
-  pub here : (turns n : ℕ) → test n ≡ true → first_passing test turns n ≡ n
-  unfolding first_passing
+  pub here : (turns n : ℕ) → test n ≡ true → first_from test turns n ≡ n
+  unfolding first_from
   here zero n e = refl
   here (suc turns) n e = simp e
 
-  pub on : (turns n : ℕ) → test n ≡ false → first_passing test (suc turns) n ≡ first_passing test turns (n + 1)
-  unfolding first_passing
+  pub on : (turns n : ℕ) → test n ≡ false → first_from test (suc turns) n ≡ first_from test turns (n + 1)
+  unfolding first_from
   on turns n e = simp e
 
-  pub last : (n : ℕ) → first_passing test 0 n ≡ n
-  unfolding first_passing
+  pub last : (n : ℕ) → first_from test 0 n ≡ n
+  unfolding first_from
   last n = refl
 
-  pub found : (turns n k : ℕ) → n ≤ k → k ≤ n + turns → ((j : ℕ) → j < k → test j ≡ false) → test k ≡ true → first_passing test turns n ≡ k
+  pub found : (turns n k : ℕ) → n ≤ k → k ≤ n + turns → ((j : ℕ) → j < k → test j ≡ false) → test k ≡ true → first_from test turns n ≡ k
   found zero n k low high none e = last n ∙ omega arith
   found (suc turns) n k low high none e =
       either (ltb n k)

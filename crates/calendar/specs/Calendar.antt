@@ -7,13 +7,13 @@ use Rattle.calendar.specs.declared.Instant.{Instant}
 use Rattle.calendar.specs.declared.Instant.TheVariants.{At, Nothing}
 
 -- a day's milliseconds
-abbrev pub day_millis : ℕ
-day_millis = 24 * 60 * 60 * 1000
+abbrev pub per_day : ℕ
+per_day = 24 * 60 * 60 * 1000
 
 -- the first number from n on that passes a test, or the one after so many turns
-unfoldable pub first_passing : (ℕ → Bool) → ℕ → ℕ → ℕ
-first_passing test zero n = n
-first_passing test (suc turns) n = cond (test n) n (first_passing test turns (n + 1))
+unfoldable pub first_from : (ℕ → Bool) → ℕ → ℕ → ℕ
+first_from test zero n = n
+first_from test (suc turns) n = cond (test n) n (first_from test turns (n + 1))
 
 -- whether the new year after n years and one more comes after a day
 abbrev pub next_year_after : ℕ → ℕ → Bool
@@ -22,7 +22,7 @@ next_year_after day n = ltb day (days_of (n + 1))
 -- the years that have gone by on a day: the first number for which the next new year comes after the day. A year has a day at least, so
 -- that as many turns as days are enough (`years_are` of proofs/Years.antt)
 unfoldable pub years_gone : ℕ → ℕ
-years_gone day = first_passing (next_year_after day) day 0
+years_gone day = first_from (next_year_after day) day 0
 
 -- a leap year has 366 days: whether the year after n years is one
 abbrev pub leap_after : ℕ → Bool
@@ -46,7 +46,7 @@ abbrev pub next_month_after : Bool → ℕ → ℕ → Bool
 next_month_after leap day m = ltb day (days_before leap (m + 1))
 
 unfoldable pub months_gone : Bool → ℕ → ℕ
-months_gone leap day = first_passing (next_month_after leap day) 11 0
+months_gone leap day = first_from (next_month_after leap day) 11 0
 
 -- the day of the year of a day
 abbrev pub day_of_year : ℕ → ℕ
@@ -70,16 +70,16 @@ dated day rest =
 
 -- the date and the time of day at an instant
 abbrev pub date_of : ℕ → Date
-date_of instant = dated (instant / day_millis) (instant % day_millis)
+date_of instant = dated (instant / per_day) (instant % per_day)
 
 -- the days of a year's month, counted from 1
-abbrev pub month_length : ℕ → ℕ → ℕ
-month_length year month = get_or (month_days (leap_after (year - 1))) (month - 1) 0
+abbrev pub length_of : ℕ → ℕ → ℕ
+length_of year month = get_or (month_days (leap_after (year - 1))) (month - 1) 0
 
 -- whether the calendar has a day, in a year that four digits write; the year 0 is none of the calendar's
 abbrev pub is_day : ℕ → ℕ → ℕ → Bool
 is_day year month day =
-    leb 1 year && (leb year 9999 && (leb 1 month && (leb month 12 && (leb 1 day && leb day (month_length year month)))))
+    leb 1 year && (leb year 9999 && (leb 1 month && (leb month 12 && (leb 1 day && leb day (length_of year month)))))
 
 abbrev pub is_time : ℕ → ℕ → ℕ → ℕ → Bool
 is_time hour minute second milli = ltb hour 24 && (ltb minute 60 && (ltb second 60 && ltb milli 1000))
@@ -94,7 +94,7 @@ days_to year month day = days_of (year - 1) + days_before (leap_after (year - 1)
 -- those days, and the time of day
 abbrev pub millis_to : Date → ℕ
 millis_to d =
-    day_millis * days_to d.year d.month d.day + (3600000 * d.hour + 60000 * d.minute + 1000 * d.second + d.milli)
+    per_day * days_to d.year d.month d.day + (3600000 * d.hour + 60000 * d.minute + 1000 * d.second + d.milli)
 
 -- the instant of a date, if the calendar has it
 unfoldable pub instant_of : Date → Option ℕ

@@ -2,7 +2,7 @@
 // midnight on 1 January of the year 1, so that it has no sign; the Unix epoch is one of them.
 ghost use Rattle.std.specs.Prelude.{true, ◌≡◌, ◌+◌, ◌-◌, ◌*◌, ◌≤◌, ◌<◌};
 ghost use Rattle.ticks.specs.Ticks.{days_of};
-ghost use Rattle.calendar.specs.Calendar.{years_gone, months_gone, days_before, leap_after, date_of, month_length, is_day, is_time, days_to, instant_of, told_instant};
+ghost use Rattle.calendar.specs.Calendar.{years_gone, months_gone, days_before, leap_after, date_of, length_of, is_day, is_time, days_to, instant_of, told_instant};
 
 // A date and a time of day, in UTC. Months and days count from 1.
 #[derive(Drop)]
@@ -116,7 +116,7 @@ pub fn date_of(instant: u64) -> Date
 // How many days a month has.
 fn length_of(year: u64, month: u64) -> u64
     requires { (1 ≤ year) × (year ≤ 9999) × (1 ≤ month) × (month ≤ 12) }
-    ensures { (result ≡ month_length year month) × (result ≤ 366) }
+    ensures { (result ≡ length_of year month) × (result ≤ 366) }
 {
     let leap = leap_after(year - 1);
     let months = month as usize;

@@ -3,7 +3,7 @@ use Rattle.std.specs.Prelude.{ℕ, pos, true, false}
 use Rattle.pti.specs.declared.Parsed.{Parsed}
 use Rattle.pti.specs.declared.Parsed.TheVariants.{Frame, Nothing}
 use Rattle.pti.specs.declared.PtiFrame.{PtiFrame}
-use Rattle.zniffer_numbers.specs.Told.{ResultTold, told_result}
+use Rattle.zniffer_numbers.specs.Told.{Told, told}
 use Rattle.zniffer.specs.declared.parser.Ran.{Ran}
 use Rattle.zniffer.specs.declared.parser.Used.{Used}
 use Rattle.capi_frames.specs.declared.frames.FrameAnswer.{FrameAnswer}
@@ -11,8 +11,8 @@ use Rattle.capi_frames.specs.declared.frames.Left.{Left}
 use Rattle.capi_frames.specs.declared.frames.ParsedBytes.{ParsedBytes}
 use Rattle.capi_frames.specs.declared.frames.ResultNumbers.{ResultNumbers}
 
-abbrev pub frame_answered : PtiFrame → FrameAnswer
-frame_answered f =
+abbrev pub framed : PtiFrame → FrameAnswer
+framed f =
     record {
       is_frame = true;
       direction = f.direction;
@@ -26,8 +26,8 @@ frame_answered f =
     }
 
 -- what is not said is 0
-abbrev pub no_frame_answered : FrameAnswer
-no_frame_answered =
+abbrev pub no_frame : FrameAnswer
+no_frame =
     record {
       is_frame = false;
       direction = 0;
@@ -41,11 +41,11 @@ no_frame_answered =
     }
 
 abbrev pub frame_answer : Parsed → FrameAnswer
-frame_answer (Frame f) = frame_answered f
-frame_answer Nothing = no_frame_answered
+frame_answer (Frame f) = framed f
+frame_answer Nothing = no_frame
 
 -- a result's numbers: a field each of what a result is told as, in its order
-abbrev pub numbers_of : ResultTold → ResultNumbers
+abbrev pub numbers_of : Told → ResultNumbers
 numbers_of t =
     record {
       which = t.which;
@@ -59,7 +59,7 @@ numbers_of t =
     }
 
 abbrev pub parsed_of : Used → ParsedBytes
-parsed_of u = record { result = numbers_of (told_result u.answer.result); used = u.used; payload = u.answer.payload }
+parsed_of u = record { result = numbers_of (told u.answer.result); used = u.used; payload = u.answer.payload }
 
 abbrev pub ran_of : Ran → Left
 ran_of r = record { parser = r.parser; out = parsed_of r.out }

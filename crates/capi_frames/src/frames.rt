@@ -3,9 +3,9 @@ ghost use Rattle.std.specs.Prelude.{◌≡◌};
 ghost use Rattle.ticks.specs.Ticks.{unix_millis};
 ghost use Rattle.speed.specs.Speed.{speed_for};
 ghost use Rattle.pti.specs.Frame.{frame_of};
-ghost use Rattle.zniffer_numbers.specs.Told.{told_result};
+ghost use Rattle.zniffer_numbers.specs.Told.{told};
 ghost use Rattle.zniffer.specs.Parse.{fresh_parser, run_from};
-ghost use Rattle.capi_frames.specs.Frames.{frame_answer, no_frame_answered, frame_answered, bare_of, numbers_of, parsed_of, ran_of};
+ghost use Rattle.capi_frames.specs.Frames.{frame_answer, no_frame, framed, bare_of, numbers_of, parsed_of, ran_of};
 
 use pti::{Parsed, PtiFrame};
 use zniffer::{Parser, Used};
@@ -58,7 +58,7 @@ struct Left {
 }
 
 fn no_frame() -> FrameAnswer
-    ensures { result ≡ no_frame_answered }
+    ensures { result ≡ no_frame }
 {
     FrameAnswer {
         is_frame: false,
@@ -74,7 +74,7 @@ fn no_frame() -> FrameAnswer
 }
 
 fn frame_numbers(f: PtiFrame) -> FrameAnswer
-    ensures { result ≡ frame_answered f }
+    ensures { result ≡ framed f }
 {
     FrameAnswer {
         is_frame: true,
@@ -118,7 +118,7 @@ fn bare(which: u8) -> ResultNumbers
 }
 
 fn result_numbers(p: ParserResult) -> ResultNumbers
-    ensures { result ≡ numbers_of (told_result p) }
+    ensures { result ≡ numbers_of (told p) }
 {
     match p {
         ParserResult::IncompleteFrame => bare(0),

@@ -1,6 +1,6 @@
 -- The answers of opening and of the next record in sequence, as the records of numbers that the definitions give: a field each, in their order.
 use Rattle.std.specs.Prelude.{ℕ}
-use Rattle.seam.specs.Opening.{CursorTold}
+use Rattle.seam.specs.Opening.{OpeningTold as CursorTold}
 use Rattle.reader.specs.Opening.{OpeningTold as ReaderTold}
 use Rattle.reader.specs.Next.{NextTold}
 use Rattle.reader.specs.declared.ZlfReader.{ZlfReader}
@@ -8,14 +8,14 @@ use Rattle.capi_records.specs.declared.opens.CursorOpening.{CursorOpening}
 use Rattle.capi_records.specs.declared.opens.SequenceOpening.{SequenceOpening}
 use Rattle.capi_records.specs.declared.opens.NextRecord.{NextRecord}
 
-abbrev pub cursor_answered : CursorOpening → CursorTold
-cursor_answered r = record { refusal = r.refusal; version = r.version }
+abbrev pub opening_told : CursorOpening → CursorTold
+opening_told r = record { refusal = r.refusal; version = r.version }
 
-abbrev pub sequence_answered : SequenceOpening → ReaderTold
-sequence_answered r = record { refusal = r.refusal; version = r.version; place = r.place; count = r.count }
+abbrev pub sequence_told : SequenceOpening → ReaderTold
+sequence_told r = record { refusal = r.refusal; version = r.version; place = r.place; count = r.count }
 
-abbrev pub next_answered : NextRecord → NextTold
-next_answered r =
+abbrev pub next_told : NextRecord → NextTold
+next_told r =
     record {
       refusal = r.refusal;
       is_record = r.is_record;

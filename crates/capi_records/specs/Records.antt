@@ -5,8 +5,8 @@ use Rattle.resync.specs.Search.{SearchTold}
 use Rattle.capi_records.specs.declared.records.RecordAnswer.{RecordAnswer}
 use Rattle.capi_records.specs.declared.records.SearchAnswer.{SearchAnswer}
 
-abbrev pub record_answered : RecordAnswer → RecordTold
-record_answered r =
+abbrev pub record_told : RecordAnswer → RecordTold
+record_told r =
     record {
       refusal = r.refusal;
       is_valid = r.is_valid;
@@ -21,5 +21,5 @@ record_answered r =
       millis = pos r.millis;
     }
 
-abbrev pub search_answered : SearchAnswer → SearchTold
-search_answered r = record { refusal = r.refusal; is_found = r.is_found; offset = r.offset; judged = r.judged }
+abbrev pub search_told : SearchAnswer → SearchTold
+search_told r = record { refusal = r.refusal; is_found = r.is_found; offset = r.offset; judged = r.judged }

@@ -1,9 +1,9 @@
 // Opening a trace, as a cursor and in sequence, and the next record in sequence.
 ghost use Rattle.std.specs.Prelude.{◌≡◌};
-ghost use Rattle.seam.specs.Opening.{opening_of, told_cursor};
+ghost use Rattle.seam.specs.Opening.{opening_of, told_opening as toldCursor};
 ghost use Rattle.reader.specs.Opening.{opened, told_opening as toldReader};
-ghost use Rattle.reader.specs.Next.{no_next, record_of, next_of, told_next};
-ghost use Rattle.capi_records.specs.Opens.{cursor_answered, sequence_answered, next_answered, reader_at};
+ghost use Rattle.reader.specs.Next.{no_record, record_of, next_of, told_next};
+ghost use Rattle.capi_records.specs.Opens.{opening_told, sequence_told, next_told, reader_at};
 
 use reader::{Next, Opening as Sequence, ZlfReader, ZlfRecord};
 use seam::Opening;
@@ -47,15 +47,24 @@ pub struct NextRecord {
 }
 
 fn cursor_numbers(o: Opening) -> CursorOpening
-    ensures { cursor_answered result ≡ told_cursor o }
+    ensures { opening_told result ≡ toldCursor o }
 {
-    let refusal = o.refusal();
     match o {
-        Opening::Opened { version } => CursorOpening { refusal, version },
-        Opening::OtherVersion { version } => CursorOpening { refusal, version },
-        _ => CursorOpening {
-            refusal,
+        Opening::Opened { version } => CursorOpening {
+            refusal: 0,
+            version,
+        },
+        Opening::TraceTooLong => CursorOpening {
+            refusal: 1,
             version: 0,
+        },
+        Opening::TraceTooShort => CursorOpening {
+            refusal: 2,
+            version: 0,
+        },
+        Opening::OtherVersion { version } => CursorOpening {
+            refusal: 4,
+            version,
         },
     }
 }
@@ -63,7 +72,7 @@ fn cursor_numbers(o: Opening) -> CursorOpening
 // Opens a trace as a cursor: only the version is checked.
 #[unsafe(no_mangle)]
 pub extern "C" fn zlf_open(trace: &[u8], version: u32) -> CursorOpening
-    ensures { cursor_answered result ≡ opening_of trace.now version }
+    ensures { opening_told result ≡ opening_of trace.now version }
 {
     let o = seam::open(trace, version);
     cursor_numbers(o)
@@ -71,7 +80,7 @@ pub extern "C" fn zlf_open(trace: &[u8], version: u32) -> CursorOpening
 
 // No reader.
 fn not_opened(refusal: u32, version: u32) -> SequenceOpening
-    ensures { sequence_answered result ≡ record { refusal = refusal; version = version; place = 0; count = 0 } }
+    ensures { sequence_told result ≡ record { refusal = refusal; version = version; place = 0; count = 0 } }
 {
     SequenceOpening {
         refusal,
@@ -82,32 +91,33 @@ fn not_opened(refusal: u32, version: u32) -> SequenceOpening
 }
 
 fn sequence_numbers(o: Sequence) -> SequenceOpening
-    ensures { sequence_answered result ≡ toldReader o }
+    ensures { sequence_told result ≡ toldReader o }
 {
-    let refusal = o.refusal();
     match o {
         Sequence::Opened { version, reader } => SequenceOpening {
-            refusal,
+            refusal: 0,
             version,
             place: reader.place,
             count: reader.count,
         },
-        Sequence::InvalidZlfVersion { version } => not_opened(refusal, version),
-        _ => not_opened(refusal, 0),
+        Sequence::TraceTooLong => not_opened(1, 0),
+        Sequence::TraceTooShort => not_opened(2, 0),
+        Sequence::InvalidHeaderChecksum => not_opened(3, 0),
+        Sequence::InvalidZlfVersion { version } => not_opened(4, version),
     }
 }
 
 // Opens a trace in sequence: the header's sum is checked, and then the version.
 #[unsafe(no_mangle)]
 pub extern "C" fn zlf_open_sequence(trace: &[u8], version: u32) -> SequenceOpening
-    ensures { sequence_answered result ≡ opened trace.now version }
+    ensures { sequence_told result ≡ opened trace.now version }
 {
     let o = ZlfReader::new(trace, version);
     sequence_numbers(o)
 }
 
 fn record_numbers(h: ZlfRecord, reader: ZlfReader) -> NextRecord
-    ensures { next_answered result ≡ record_of h.offset h.raw_ticks h.is_outcome h.session_id h.end h.kind h.payload_offset h.payload_len reader }
+    ensures { next_told result ≡ record_of h.offset h.raw_ticks h.is_outcome h.session_id h.end h.kind h.payload_offset h.payload_len reader }
 {
     NextRecord {
         refusal: 0,
@@ -128,7 +138,7 @@ fn record_numbers(h: ZlfRecord, reader: ZlfReader) -> NextRecord
 
 // No record, and the reader as it was given.
 fn no_record(refusal: u32, negative: i32, reader: ZlfReader) -> NextRecord
-    ensures { next_answered result ≡ no_next refusal negative reader }
+    ensures { next_told result ≡ no_record refusal negative reader }
 {
     NextRecord {
         refusal,
@@ -148,23 +158,22 @@ fn no_record(refusal: u32, negative: i32, reader: ZlfReader) -> NextRecord
 }
 
 fn next_numbers(n: Next) -> NextRecord
-    ensures { next_answered result ≡ told_next n }
+    ensures { next_told result ≡ told_next n }
 {
-    let refusal = n.refusal();
     match n {
         Next::Record { header, reader } => record_numbers(header, reader),
-        Next::End { reader } => no_record(refusal, 0, reader),
-        Next::TraceTooLong { reader } => no_record(refusal, 0, reader),
-        Next::InvalidPayloadLength { length, reader } => no_record(refusal, length, reader),
-        Next::EofInHead { reader } => no_record(refusal, 0, reader),
-        Next::EofInPayload { reader } => no_record(refusal, 0, reader),
+        Next::End { reader } => no_record(0, 0, reader),
+        Next::TraceTooLong { reader } => no_record(1, 0, reader),
+        Next::InvalidPayloadLength { length, reader } => no_record(8, length, reader),
+        Next::EofInHead { reader } => no_record(9, 0, reader),
+        Next::EofInPayload { reader } => no_record(10, 0, reader),
     }
 }
 
 // The next record in sequence, of a reader at a place with a count.
 #[unsafe(no_mangle)]
 pub extern "C" fn zlf_next(kinds: &[u8; 256], trace: &[u8], place: usize, count: u64) -> NextRecord
-    ensures { next_answered result ≡ next_of kinds.now trace.now (reader_at place count) }
+    ensures { next_told result ≡ next_of kinds.now trace.now (reader_at place count) }
 {
     let reader = ZlfReader { place, count };
     let n = reader.next_record(kinds, trace);

@@ -1,9 +1,9 @@
 // The record at an offset, and the search for a boundary.
 ghost use Rattle.std.specs.Prelude.{◌≡◌};
 ghost use Rattle.record.specs.Record.{plausible, no_record, record_at, told_record};
-ghost use Rattle.resync.specs.Search.{nothing, search_from, told_search};
+ghost use Rattle.resync.specs.Search.{search_from, told_search};
 ghost use Rattle.record.specs.declared.Record.TheVariants.{Valid};
-ghost use Rattle.capi_records.specs.Records.{record_answered, search_answered};
+ghost use Rattle.capi_records.specs.Records.{record_told, search_told};
 
 use record::{Record, RecordHeader};
 use resync::Search;
@@ -37,7 +37,7 @@ pub struct SearchAnswer {
 }
 
 fn header_numbers(h: RecordHeader) -> RecordAnswer
-    ensures { record_answered result ≡ told_record (Valid h) }
+    ensures { record_told result ≡ told_record (Valid h) }
 {
     RecordAnswer {
         refusal: 0,
@@ -56,7 +56,7 @@ fn header_numbers(h: RecordHeader) -> RecordAnswer
 
 // No valid record.
 fn absent(refusal: u32) -> RecordAnswer
-    ensures { record_answered result ≡ no_record refusal }
+    ensures { record_told result ≡ no_record refusal }
 {
     RecordAnswer {
         refusal,
@@ -74,37 +74,26 @@ fn absent(refusal: u32) -> RecordAnswer
 }
 
 fn record_numbers(a: Record) -> RecordAnswer
-    ensures { record_answered result ≡ told_record a }
+    ensures { record_told result ≡ told_record a }
 {
-    let Record::Valid { header } = a else {
-        return absent(a.refusal());
-    };
-    header_numbers(header)
+    match a {
+        Record::Valid { header } => header_numbers(header),
+        Record::Absent => absent(0),
+        Record::TraceTooLong => absent(1),
+    }
 }
 
 // The record at an offset.
 #[unsafe(no_mangle)]
 pub extern "C" fn zlf_record(kinds: &[u8; 256], trace: &[u8], offset: usize) -> RecordAnswer
-    ensures { record_answered result ≡ record_at plausible kinds.now trace.now offset }
+    ensures { record_told result ≡ record_at plausible kinds.now trace.now offset }
 {
     let a = record::read_record(kinds, trace, offset);
     record_numbers(a)
 }
 
-// No boundary.
-fn not_found(refusal: u32, judged: usize) -> SearchAnswer
-    ensures { search_answered result ≡ nothing refusal judged }
-{
-    SearchAnswer {
-        refusal,
-        is_found: false,
-        offset: 0,
-        judged,
-    }
-}
-
 fn search_numbers(a: Search) -> SearchAnswer
-    ensures { search_answered result ≡ told_search a }
+    ensures { search_told result ≡ told_search a }
 {
     match a {
         Search::Found { offset, judged } => SearchAnswer {
@@ -113,8 +102,24 @@ fn search_numbers(a: Search) -> SearchAnswer
             offset,
             judged,
         },
-        Search::Nothing { judged } => not_found(0, judged),
-        _ => not_found(a.refusal(), 0),
+        Search::Nothing { judged } => SearchAnswer {
+            refusal: 0,
+            is_found: false,
+            offset: 0,
+            judged,
+        },
+        Search::TraceTooLong => SearchAnswer {
+            refusal: 1,
+            is_found: false,
+            offset: 0,
+            judged: 0,
+        },
+        Search::WindowTooLong => SearchAnswer {
+            refusal: 5,
+            is_found: false,
+            offset: 0,
+            judged: 0,
+        },
     }
 }
 
@@ -126,7 +131,7 @@ pub extern "C" fn zlf_search(
     from: usize,
     window: usize,
 ) -> SearchAnswer
-    ensures { search_answered result ≡ search_from plausible kinds.now trace.now from window }
+    ensures { search_told result ≡ search_from plausible kinds.now trace.now from window }
 {
     let a = resync::next_record_at(kinds, trace, from, window);
     search_numbers(a)

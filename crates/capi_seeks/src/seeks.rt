@@ -2,11 +2,11 @@
 ghost use Rattle.std.specs.Prelude.{◌≡◌, false};
 ghost use Rattle.record.specs.Record.{plausible};
 ghost use Rattle.span.specs.Met.{trace_of};
-ghost use Rattle.span.specs.Span.{no_span, span_of, told_span};
+ghost use Rattle.span.specs.Span.{span_of, told_span};
 ghost use Rattle.seek.specs.Seek.{seek_of, told_seek, told_found};
-ghost use Rattle.seek.specs.Step.{told_state, no_state, start_at, told_start, seek_step_at, told_seek_step, seek_done};
+ghost use Rattle.seek.specs.Step.{told_state, no_state, start_at, told_start, step_at, told_step, done};
 ghost use Rattle.plain.specs.Plain.{plain_of, told_plain};
-ghost use Rattle.capi_seeks.specs.Seeks.{span_answered, seek_answered, plain_answered, state_answered, state_of, start_answered, step_answered};
+ghost use Rattle.capi_seeks.specs.Seeks.{span_told, seek_told, plain_told, state_told, state_of, start_told, step_told};
 
 use plain::PlainSeek;
 use seek::{Found, SeekStart, SeekState, SeekStep, SeekTime};
@@ -71,43 +71,42 @@ pub struct StepAnswer {
     pub offset: usize,
 }
 
-// No span.
-fn no_span(refusal: u32) -> SpanAnswer
-    ensures { span_answered result ≡ no_span refusal }
-{
-    SpanAnswer {
-        refusal,
-        is_found: false,
-        first: 0,
-        last: 0,
-    }
-}
-
 fn span_numbers(s: Span) -> SpanAnswer
-    ensures { span_answered result ≡ told_span s }
+    ensures { span_told result ≡ told_span s }
 {
-    let Span::Times { first, last } = s else {
-        return no_span(s.refusal());
-    };
-    SpanAnswer {
-        refusal: 0,
-        is_found: true,
-        first,
-        last,
+    match s {
+        Span::Times { first, last } => SpanAnswer {
+            refusal: 0,
+            is_found: true,
+            first,
+            last,
+        },
+        Span::Nothing => SpanAnswer {
+            refusal: 0,
+            is_found: false,
+            first: 0,
+            last: 0,
+        },
+        Span::TraceTooLong => SpanAnswer {
+            refusal: 1,
+            is_found: false,
+            first: 0,
+            last: 0,
+        },
     }
 }
 
 // The times of the first and of the last record.
 #[unsafe(no_mangle)]
 pub extern "C" fn zlf_span(kinds: &[u8; 256], trace: &[u8]) -> SpanAnswer
-    ensures { span_answered result ≡ span_of (trace_of plausible kinds.now trace.now) }
+    ensures { span_told result ≡ span_of (trace_of plausible kinds.now trace.now) }
 {
     let s = span::time_span(kinds, trace);
     span_numbers(s)
 }
 
 fn seek_numbers(s: SeekTime) -> SeekAnswer
-    ensures { seek_answered result ≡ told_seek s }
+    ensures { seek_told result ≡ told_seek s }
 {
     match s {
         SeekTime::Found { offset, halvings } => SeekAnswer {
@@ -122,8 +121,8 @@ fn seek_numbers(s: SeekTime) -> SeekAnswer
             offset: 0,
             halvings,
         },
-        _ => SeekAnswer {
-            refusal: s.refusal(),
+        SeekTime::TraceTooLong => SeekAnswer {
+            refusal: 1,
             is_found: false,
             offset: 0,
             halvings: 0,
@@ -134,47 +133,45 @@ fn seek_numbers(s: SeekTime) -> SeekAnswer
 // The first record at or after a time, in milliseconds.
 #[unsafe(no_mangle)]
 pub extern "C" fn zlf_seek(kinds: &[u8; 256], trace: &[u8], time: i64) -> SeekAnswer
-    ensures { seek_answered result ≡ seek_of (trace_of plausible kinds.now trace.now) time }
+    ensures { seek_told result ≡ seek_of (trace_of plausible kinds.now trace.now) time }
 {
     let s = seek::seek_time(kinds, trace, time);
     seek_numbers(s)
 }
 
-// No record.
-fn no_plain(refusal: u32) -> PlainAnswer
-    ensures { plain_answered result ≡ record { refusal = refusal; is_found = false; offset = 0 } }
-{
-    PlainAnswer {
-        refusal,
-        is_found: false,
-        offset: 0,
-    }
-}
-
 fn plain_numbers(s: PlainSeek) -> PlainAnswer
-    ensures { plain_answered result ≡ told_plain s }
+    ensures { plain_told result ≡ told_plain s }
 {
-    let PlainSeek::Found { offset } = s else {
-        return no_plain(s.refusal());
-    };
-    PlainAnswer {
-        refusal: 0,
-        is_found: true,
-        offset,
+    match s {
+        PlainSeek::Found { offset } => PlainAnswer {
+            refusal: 0,
+            is_found: true,
+            offset,
+        },
+        PlainSeek::Nothing => PlainAnswer {
+            refusal: 0,
+            is_found: false,
+            offset: 0,
+        },
+        PlainSeek::TraceTooLong => PlainAnswer {
+            refusal: 1,
+            is_found: false,
+            offset: 0,
+        },
     }
 }
 
 // The first at or after a time by a walk over the records from the first one, each where the last ended: slow and easy to trust.
 #[unsafe(no_mangle)]
 pub extern "C" fn zlf_plain_seek(kinds: &[u8; 256], trace: &[u8], time: i64) -> PlainAnswer
-    ensures { plain_answered result ≡ plain_of (trace_of plausible kinds.now trace.now) time }
+    ensures { plain_told result ≡ plain_of (trace_of plausible kinds.now trace.now) time }
 {
     let s = plain::plain_seek(kinds, trace, time);
     plain_numbers(s)
 }
 
 fn state_numbers(s: SeekState) -> State
-    ensures { state_answered result ≡ told_state s }
+    ensures { state_told result ≡ told_state s }
 {
     match s {
         SeekState::Searching { lo, hi } => State {
@@ -194,7 +191,7 @@ fn state_numbers(s: SeekState) -> State
 
 // No state.
 fn no_state() -> State
-    ensures { state_answered result ≡ no_state }
+    ensures { state_told result ≡ no_state }
 {
     State {
         searching: false,
@@ -205,12 +202,12 @@ fn no_state() -> State
 }
 
 fn start_numbers(s: SeekStart) -> StartAnswer
-    ensures { start_answered result ≡ told_start s }
+    ensures { start_told result ≡ told_start s }
 {
     let SeekStart::From { state } = s else {
         let none = no_state();
         return StartAnswer {
-            refusal: s.refusal(),
+            refusal: 1,
             state: none,
         };
     };
@@ -224,7 +221,7 @@ fn start_numbers(s: SeekStart) -> StartAnswer
 // Where a stepped seek starts.
 #[unsafe(no_mangle)]
 pub extern "C" fn zlf_seek_start(kinds: &[u8; 256], trace: &[u8]) -> StartAnswer
-    ensures { start_answered result ≡ start_at (trace_of plausible kinds.now trace.now) }
+    ensures { start_told result ≡ start_at (trace_of plausible kinds.now trace.now) }
 {
     let s = seek::seek_start(kinds, trace);
     start_numbers(s)
@@ -242,7 +239,7 @@ fn state_of(s: State) -> SeekState
 
 // The step goes on, from a state.
 fn going_on(answer: u32, s: SeekState) -> StepAnswer
-    ensures { step_answered result ≡ record { refusal = 0; answer = answer; state = told_state s; is_found = false; offset = 0 } }
+    ensures { step_told result ≡ record { refusal = 0; answer = answer; state = told_state s; is_found = false; offset = 0 } }
 {
     let state = state_numbers(s);
     StepAnswer {
@@ -256,7 +253,7 @@ fn going_on(answer: u32, s: SeekState) -> StepAnswer
 
 // The step is the last one, or is refused.
 fn ended(refusal: u32, answer: u32, is_found: bool, offset: usize) -> StepAnswer
-    ensures { step_answered result ≡ record { refusal = refusal; answer = answer; state = no_state; is_found = is_found; offset = offset } }
+    ensures { step_told result ≡ record { refusal = refusal; answer = answer; state = no_state; is_found = is_found; offset = offset } }
 {
     let state = no_state();
     StepAnswer {
@@ -269,7 +266,7 @@ fn ended(refusal: u32, answer: u32, is_found: bool, offset: usize) -> StepAnswer
 }
 
 fn found_numbers(f: Found) -> StepAnswer
-    ensures { step_answered result ≡ seek_done (told_found f) }
+    ensures { step_told result ≡ done (told_found f) }
 {
     match f {
         Found::At { offset } => ended(0, 3, true, offset),
@@ -278,13 +275,14 @@ fn found_numbers(f: Found) -> StepAnswer
 }
 
 fn step_numbers(s: SeekStep) -> StepAnswer
-    ensures { step_answered result ≡ told_seek_step s }
+    ensures { step_told result ≡ told_step s }
 {
     match s {
         SeekStep::More { state } => going_on(1, state),
         SeekStep::Scan { state } => going_on(2, state),
         SeekStep::Done { found } => found_numbers(found),
-        _ => ended(s.refusal(), 0, false, 0),
+        SeekStep::TraceTooLong => ended(1, 0, false, 0),
+        SeekStep::WindowTooLong => ended(5, 0, false, 0),
     }
 }
 
@@ -296,7 +294,7 @@ pub extern "C" fn zlf_seek_step(
     time: i64,
     state: State,
 ) -> StepAnswer
-    ensures { step_answered result ≡ seek_step_at (trace_of plausible kinds.now trace.now) time (state_of state) }
+    ensures { step_told result ≡ step_at (trace_of plausible kinds.now trace.now) time (state_of state) }
 {
     let from = state_of(state);
     let s = seek::seek_step(kinds, trace, time, from);

@@ -10,7 +10,7 @@ use mathlib.Core.Path.{◌≡◌, refl, sym, ap, ap₂, ◌∙◌}
 use native.Mathlib.Nat.{add-zero, zero-add, mod-lt, pow-suc, one-mul, zero-mul, div-lt_iff_lt-mul}
 use native.Mathlib.Omega.{arith}
 use borrow.Author.Tests.{eqb-true}
-use Rattle.lemmas.proofs.Choice.{left_true, right_true}
+use Rattle.choice.proofs.Choice.{left_true, right_true}
 
 -- two digits
 differ_lt : (x y : ℕ) → x < 2 → y < 2 → differ x y < 2

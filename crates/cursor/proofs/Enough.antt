@@ -17,7 +17,7 @@ use Rattle.paging.proofs.Sizes.{page_room}
 use Rattle.paging.specs.Page.{PageTold}
 use Rattle.cursor.specs.Reading.{Call, Asked, Roomy, Reading, joined, bare, rows_from}
 use Rattle.cursor.proofs.Demand3.{pages_lose_nothing}
-use Rattle.cursor.proofs.Handed.{reading_of}
+use Rattle.cursor.proofs.Whole.{reading_of}
 
 module _ (limits : Limits) (kinds s : List ℕ) where
   -- of any call, from any place

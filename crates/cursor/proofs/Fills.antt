@@ -10,16 +10,16 @@ use mathlib.Core.List.{List, [], ◌∷◌, ◌++◌, append_assoc}
 use lib.ListN.{length, set, drop, length-append}
 use Rattle.record.specs.Record.{plausible}
 use Rattle.rows.specs.declared.Row.{Row}
-use Rattle.row_steps.specs.declared.Place.{Place}
+use Rattle.steps.specs.declared.Place.{Place}
 use Rattle.paging.specs.Page.{PageGiven}
-use Rattle.row_steps.specs.Step.{row_step_of, rows_of}
+use Rattle.steps.specs.Step.{step_of, rows_of}
 use Rattle.paging.specs.Plan.{Planned}
 use Rattle.paging.specs.declared.Plan.{Plan}
 use Rattle.cursor.specs.Table.{Answered}
 
 abbrev pub goes : List ℕ → List ℕ → ℕ → ℕ → Place → List Row → List Row
 goes k s zero i at zs = zs
-goes k s (suc t) i at zs = goes k s t (i + 1) (row_step_of plausible k s at).next (set zs i (row_step_of plausible k s at).row)
+goes k s (suc t) i at zs = goes k s t (i + 1) (step_of plausible k s at).next (set zs i (step_of plausible k s at).row)
 
 set_after : (xs : List Row) (z y : Row) (zs : List Row) → set (xs ++ (z ∷ zs)) (length xs) y ≡ (xs ++ (y ∷ [])) ++ zs
 set_after [] z y zs = refl
@@ -30,8 +30,8 @@ unfolding rows_of
 goes_app k s zero xs at zs h = refl
 goes_app k s (suc t) xs at [] h = absurd (not-suc-le-zero h)
 goes_app k s (suc t) xs at (z ∷ zs) h =
-    let y = (row_step_of plausible k s at).row in
-    let p = (row_step_of plausible k s at).next in
+    let y = (step_of plausible k s at).row in
+    let p = (step_of plausible k s at).next in
     ap (λ (l : List Row). goes k s t (length xs + 1) p l) (set_after xs z y zs)
     ∙ ap (λ (i : ℕ). goes k s t i p ((xs ++ (y ∷ [])) ++ zs)) (sym (length-append xs (y ∷ [])))
     ∙ goes_app k s t (xs ++ (y ∷ [])) p zs (le_of_suc-le-suc h)

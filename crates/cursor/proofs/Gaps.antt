@@ -8,12 +8,12 @@ use mathlib.Core.Option.{Option, some}
 use mathlib.Core.Path.{◌≡◌, refl}
 use native.Mathlib.Numerals.{add-one}
 use native.Mathlib.Omega.{arith}
-use Rattle.lemmas.proofs.Choice.{by_choice}
+use Rattle.choice.proofs.Choice.{by_choice}
 use Rattle.resync.specs.Search.{searched, default_window}
 use Rattle.rows.specs.declared.Row.{Row}
 use Rattle.paging.proofs.Pages.{length_gapped}
 use Rattle.paging.specs.Page.{gapped, taken, PageGiven, page_from}
-use Rattle.rows.specs.Rows.{gap_of, blank_row}
+use Rattle.steps.specs.Step.{gap_of, blank_row}
 use Rattle.cursor.specs.Reading.{Gaps}
 
 none_there : (before : Option ℤ) → Gaps before []

@@ -1,4 +1,3 @@
-pub mod Handed
 pub mod Pages
 pub mod Held
 pub mod Readings
@@ -9,6 +8,5 @@ pub mod Enough
 pub mod Fills
 pub mod Only
 pub mod Once
+pub mod Local
 pub mod Operands
-pub mod Types
-pub mod LentTable

@@ -1,40 +1,36 @@
 -- Pages of an unbroken stretch: what a page takes and what is left after it are all the rows, and less is left. Over any record test and any rows
 -- of a record. Assumes nothing.
-use Prim.Native.Nat.{ℕ, suc, ◌-◌, ◌≤◌}
+use Prim.Native.Nat.{ℕ, suc, ◌+◌, ◌-◌, ◌≤◌}
 use borrow.Author.Tests.{ne_eqb}
 use lib.Dec.{ltb, eqb}
 use lib.IntN.{ℤ, pos}
 use lib.ListN.{length}
 use mathlib.Core.Bool.{cond}
-use mathlib.Core.List.{List, [], ◌∷◌, ◌++◌, append_assoc, map-append}
+use mathlib.Core.List.{List, [], ◌∷◌, ◌++◌, append_assoc}
 use mathlib.Core.Option.{Option, none, some}
 use mathlib.Core.Path.{◌≡◌, refl, sym, ap, ◌∙◌}
 use native.Mathlib.Omega.{arith}
-use Rattle.lemmas.proofs.Choice.{either}
+use Rattle.choice.proofs.Choice.{either}
 use Rattle.layout.specs.Layout.{header_size, trace_limit}
 use Rattle.record.proofs.Steps.{Steps, past_end}
 use Rattle.rows.specs.declared.Row.{Row}
 use Rattle.seam.specs.Seam.{Unbroken, ends, more}
 use Rattle.paging.specs.Page.{with_gap, gapped, Taken, none_taken, with_record, taken, PageGiven, going_on, last_page, page_refused, with_none, lent_to, page_of, page_from}
 use Rattle.cursor.specs.Reading.{bare, rows_from}
-use Rattle.record.proofs.Walks.{stopped, goes_on_lem}
+use Rattle.seam.proofs.Walks.{stopped, goes_on_lem}
 use Rattle.seam.proofs.Boundaries.{finds, finds_none}
 use Rattle.paging.proofs.Pages.{taken_stops, taken_on}
 
 -- gaps aside
 pub bare_append : (xs ys : List Row) → bare (xs ++ ys) ≡ bare xs ++ bare ys
 unfolding bare
-bare_append xs ys = map-append (with_gap (pos 0)) xs ys
+bare_append [] ys = refl
+bare_append (x ∷ xs) ys = ap (λ (l : List Row). with_gap (pos 0) x ∷ l) (bare_append xs ys)
 
 pub bare_gapped : (before : Option ℤ) (rows : List Row) → bare (gapped before rows) ≡ bare rows
 unfolding bare gapped
 bare_gapped before [] = refl
 bare_gapped before (r ∷ rs) = ap (λ (l : List Row). with_gap (pos 0) r ∷ l) (bare_gapped (some r.millis) rs)
-
--- k valid records follow one another from a place behind the header to the last byte
-pub record Stretch (next : ℕ → Option ℕ) (n at k : ℕ) : Type 0 where
-  pub low : header_size ≤ at
-  pub rest : Unbroken next n at k
 
 module _ (next : ℕ → Option ℕ) (rows : ℕ → List Row) (n : ℕ) (steps : Steps next n) where
   pub rows_stop : (at : ℕ) → next at ≡ none → rows_from next rows n at ≡ []

@@ -1,46 +1,41 @@
--- One page of an unbroken stretch, from a place and with a time before it: what it took, and what is left after it, are all the rows, and less is
--- left. So of a call, by what its caller holds; and with gaps put aside these are the laws that proofs/Handed.antt asks of one page, where
--- nothing but the place is handed on. Over any record test and any rows of a record. Assumes nothing.
-use Prim.Native.Nat.{ℕ, suc, ◌≤◌}
+-- Reading an unbroken stretch page by page: the pages end, and joined, gaps aside, they are the rows of every record. Over any record test and
+-- any rows of a record. Assumes nothing.
+use Prim.Native.Nat.{ℕ, zero, suc, ◌+◌, ◌≤◌, ◌<◌}
 use borrow.Author.Tests.{ltb-false}
 use lib.Dec.{ltb}
 use lib.IntN.{ℤ}
 use lib.ListN.{length, drop}
-use mathlib.Core.Bool.{Bool, true, false, cond, false≢true, true≢false}
-use mathlib.Core.List.{List, [], ◌++◌, append-nil}
+use mathlib.Core.Bool.{Bool, true, false, cond, false≢true}
+use mathlib.Core.List.{List, [], ◌∷◌, ◌++◌, append-nil, flat_map}
 use mathlib.Core.Option.{Option, some}
-use mathlib.Core.Path.{◌≡◌, refl, sym, ap, subst, ◌∙◌}
+use mathlib.Core.Path.{◌≡◌, refl, sym, ap, ◌∙◌}
 use native.Mathlib.Omega.{arith}
+use Rattle.choice.proofs.Choice.{either}
 use Rattle.layout.specs.Layout.{header_size, trace_limit}
 use Rattle.record.proofs.Steps.{Steps, past_end}
 use Rattle.rows.specs.declared.Row.{Row}
 use Rattle.seam.specs.Seam.{Unbroken, ends, more}
-use Rattle.paging.specs.Page.{gapped, Taken, taken, PageTold, PageGiven, going_on, last_page, page_from, told_page}
+use Rattle.paging.specs.Page.{gapped, Taken, taken, PageTold, PageGiven, going_on, last_page, with_none, page_from, told_page}
 use Rattle.paging.specs.declared.Page.{Page}
 use Rattle.paging.specs.declared.Page.TheVariants as Page
 use Rattle.paging.proofs.Answers.{page_answer}
-use Rattle.cursor.specs.Reading.{Call, told, page_rows, Roomy, Chosen, bare, rows_from}
+use Rattle.cursor.specs.Reading.{Call, told, page_rows, Roomy, Chosen, Reading, last, more as further, joined, bare, rows_from}
 use Rattle.cursor.specs.Table.{Answered}
 use Rattle.seam.proofs.Boundaries.{unbroken_inside}
-use Rattle.cursor.proofs.Handed.{Fewer, OnePage}
 use Rattle.cursor.proofs.Held.{rows_held}
-use Rattle.cursor.proofs.Pages.{bare_append, bare_gapped, Stretch, rows_stop, Part, part_more, page_end, page_given}
+use Rattle.cursor.proofs.Pages.{bare_append, bare_gapped, rows_stop, Part, part_more, page_end, page_given}
 
 -- an answer that names a next place is no refusal
-pub named : (p : Page) → (told_page p).is_more ≡ true → (told_page p).refusal ≡ 0
+named : (p : Page) → (told_page p).is_more ≡ true → (told_page p).refusal ≡ 0
 named (Page.More start size next) e = refl
 named (Page.Last start size) e = refl
 named Page.TraceTooLong e = absurd (false≢true e)
 named Page.WindowTooLong e = absurd (false≢true e)
 named Page.TableTooShort e = absurd (false≢true e)
 
--- the page that a caller holds
-abbrev pub page_in : Call → PageGiven
-page_in c = record { told = told c; rows = page_rows c }
-
 module _ (next : ℕ → Option ℕ) (rows : ℕ → List Row) (n : ℕ) (steps : Steps next n) (before : Option ℤ) (fits : n ≤ trace_limit) where
   -- the page from a place
-  abbrev page : ℕ → ℕ → ℕ → PageGiven
+  abbrev pub page : ℕ → ℕ → ℕ → PageGiven
   page count room at = page_from next rows n before at count room
 
   abbrev all : ℕ → List Row
@@ -49,109 +44,172 @@ module _ (next : ℕ → Option ℕ) (rows : ℕ → List Row) (n : ℕ) (steps 
   none_left : all n ≡ []
   none_left = rows_stop next rows n steps n (past_end next n steps n (omega arith))
 
-  -- a page that has taken whole records: its rows are theirs, with their gaps; those and the rows from the next place on are all, and less is left
-  -- there; where it names no next place, they are all
-  pub record Took (at k : ℕ) (g : PageGiven) : Type 0 where
-    pub own : List Row
-    pub with_gaps : g.rows ≡ gapped before own
-    pub going : g.told.is_more ≡ true → Fewer (Stretch next n) k g.told.next × (own ++ all g.told.next ≡ all at)
-    pub ending : g.told.is_more ≡ false → own ≡ all at
+  -- what is left after a page that names a next place: an unbroken stretch of fewer records
+  record Onward (k there : ℕ) : Type 0 where
+    pub left : ℕ
+    pub fewer : left < k
+    pub low : header_size ≤ there
+    pub rest : Unbroken next n there left
 
-  module _ (count room : ℕ) (counted : 1 ≤ count) where
+  module _ (count room : ℕ) where
     -- the page from the end
-    took_end : header_size ≤ n → Took n 0 (page count room n)
-    unfolding gapped
-    took_end low =
-        rw (page_end next rows n steps before fits low count room)
-        (record { own = []; with_gaps = refl; going = λ e. absurd (false≢true e); ending = λ e. sym none_left })
+    module _ (low : header_size ≤ n) where
+      end_is : page count room n ≡ with_none (last_page n 0)
+      end_is = page_end next rows n steps before fits low count room
 
-    -- the page from a record's place
-    module _ {at m k : ℕ} (low : header_size ≤ at) (e : next at ≡ some m) (u : Unbroken next n m k) where
+      end_all : bare (page count room n).rows ≡ bare (all n)
+      end_all = rw end_is (rw none_left)
+
+    -- one page that is not refused for want of room, from a record's place, and the pages after it
+    module _ {at m k : ℕ} (counted : 1 ≤ count) (low : header_size ≤ at) (e : next at ≡ some m) (u : Unbroken next n m k) (roomy : (page count room at).told.refusal ≡ 7 → ⊥) where
       abbrev t : Taken
       t = taken next rows n at count
 
       p : Part next rows n steps at k t
       p = part_more next rows n steps e u count counted
 
-      abbrev given : Bool → PageGiven
-      given b = record { told = cond b (going_on at (length t.rows) t.end) (last_page at (length t.rows)); rows = gapped before t.rows }
+      abbrev said : Bool → PageTold
+      said b = cond b (going_on at (length t.rows) t.end) (last_page at (length t.rows))
 
-      took_by : (b : Bool) → ltb t.end n ≡ b → Took at (suc k) (given b)
-      took_by true f =
-          record {
-            own = t.rows;
-            with_gaps = refl;
-            going = λ z. (
-              record { left = p.left; fewer = omega (arith, p.fewer); rest = record { low = omega (arith, p.further_on); rest = p.rest } },
-              p.together,
-            );
-            ending = λ z. absurd (true≢false z);
-          }
-      took_by false f =
-          let at_end : t.end ≡ n = omega (arith, ltb-false t.end n f, unbroken_inside next n steps p.rest) in
-          record {
-            own = t.rows;
-            with_gaps = refl;
-            going = λ z. absurd (false≢true z);
-            ending = λ z. sym (append-nil t.rows) ∙ ap (λ (l : List Row). t.rows ++ l) (sym (ap (λ (x : ℕ). all x) at_end ∙ none_left)) ∙ p.together;
-          }
+      is : page count room at ≡ record { told = said (ltb t.end n); rows = gapped before t.rows }
+      is = page_given next rows n steps before fits low (more e u) count room counted roomy
 
-      took_more : ((page count room at).told.refusal ≡ 7 → ⊥) → Took at (suc k) (page count room at)
-      took_more roomy = rw (page_given next rows n steps before fits low (more e u) count room counted roomy) (took_by (ltb t.end n) refl)
+      -- with some rows that are those after it, it has all
+      with_rest : (rest : List Row) → bare rest ≡ bare (all t.end) → bare ((page count room at).rows ++ rest) ≡ bare (all at)
+      with_rest rest h =
+          bare_append (page count room at).rows rest
+          ∙ ap (λ (l : List Row). l ++ bare rest) (ap (λ (g : PageGiven). bare g.rows) is ∙ bare_gapped before t.rows)
+          ∙ ap (λ (l : List Row). bare t.rows ++ l) h
+          ∙ sym (bare_append t.rows (all t.end))
+          ∙ ap bare p.together
 
-    -- a page that is not refused for want of room
-    page_took : {at k : ℕ} → header_size ≤ at → Unbroken next n at k → ((page count room at).told.refusal ≡ 7 → ⊥) → Took at k (page count room at)
-    page_took low ends roomy = took_end low
-    page_took low (more e u) roomy = took_more low e u roomy
+      -- no page comes after it: it has all
+      alone : ltb t.end n ≡ false → bare (page count room at).rows ≡ bare (all at)
+      unfolding bare
+      alone b =
+          let at_end : t.end ≡ n = omega (arith, ltb-false t.end n b, unbroken_inside next n steps p.rest) in
+          let h : bare [] ≡ bare (all t.end) = rw at_end (rw none_left) in
+          ap bare (sym (append-nil (page count room at).rows)) ∙ with_rest [] h
 
-  -- so of a call, by its answer and its table
-  module _ (at : ℕ) (c : Call) (answered : Answered (page c.count (length c.lent) at) c.answer c.lent c.after) (counted : 1 ≤ c.count) where
-    same : page_in c ≡ page c.count (length c.lent) at
-    same = λ j. record { told = answered.told j; rows = rows_held next rows n steps before at c answered j }
+      goes_on_lem : (page count room at).told.is_more ≡ ltb t.end n
+      goes_on_lem = ap (λ (g : PageGiven). g.told.is_more) is ∙ by_more (ltb t.end n)
+        where
+          by_more : (b : Bool) → (said b).is_more ≡ b
+          by_more true = refl
+          by_more false = refl
 
-    pub call_took : {k : ℕ} → Stretch next n at k → Roomy c → Took at k (page_in c)
-    call_took {k} l roomy =
-        subst (λ (g : PageGiven). Took at k g) (sym same)
-        (page_took c.count (length c.lent) counted l.low l.rest (λ z. roomy (ap (λ (x : PageTold). x.refusal) answered.told ∙ z)))
+      next_place : ltb t.end n ≡ true → (page count room at).told.next ≡ t.end
+      next_place b = ap (λ (g : PageGiven). g.told.next) is ∙ rw b
 
-  -- gaps aside
-  module _ {at k : ℕ} {g : PageGiven} (q : Took at k g) where
-    joins_bare : g.told.is_more ≡ true → bare g.rows ++ bare (all g.told.next) ≡ bare (all at)
-    joins_bare e =
-        ap (λ (l : List Row). bare l ++ bare (all g.told.next)) q.with_gaps
-        ∙ ap (λ (l : List Row). l ++ bare (all g.told.next)) (bare_gapped before q.own)
-        ∙ sym (bare_append q.own (all g.told.next))
-        ∙ ap bare (q.going e).1
+    module _ (counted : 1 ≤ count) where
+      -- the page that names no next place has all
+      read_last : {at k : ℕ} → header_size ≤ at → Unbroken next n at k → ((page count room at).told.refusal ≡ 7 → ⊥) → (page count room at).told.is_more ≡ false
+          → bare (page count room at).rows ≡ bare (all at)
+      read_last low ends r e = end_all low
+      read_last low (more f u) r e = alone counted low f u r (sym (goes_on_lem counted low f u r) ∙ e)
 
-    rest_bare : g.told.is_more ≡ false → bare g.rows ≡ bare (all at)
-    rest_bare e = ap bare q.with_gaps ∙ bare_gapped before q.own ∙ ap bare (q.ending e)
+      -- one that names a next place, and what is left there
+      read_on : {at k : ℕ} → header_size ≤ at → Unbroken next n at k → ((page count room at).told.refusal ≡ 7 → ⊥) → (page count room at).told.is_more ≡ true
+          → Onward k (page count room at).told.next
+      read_on low ends r e = absurd (false≢true (sym (ap (λ (g : PageGiven). g.told.is_more) (end_is low)) ∙ e))
+      read_on low (more f u) r e =
+          let q = p counted low f u r in
+          rw (next_place counted low f u r (sym (goes_on_lem counted low f u r) ∙ e))
+          (record { left = q.left; fewer = omega (arith, q.fewer); low = omega (arith, q.further_on); rest = q.rest })
 
-  -- ---- today's instance: calls of a kind, each answered so, where nothing but the place is handed on
+      read_more : {at k : ℕ} → header_size ≤ at → Unbroken next n at k → ((page count room at).told.refusal ≡ 7 → ⊥) → (page count room at).told.is_more ≡ true
+          → (rest : List Row) → bare rest ≡ bare (all (page count room at).told.next) → bare ((page count room at).rows ++ rest) ≡ bare (all at)
+      read_more low ends r e rest h = absurd (false≢true (sym (ap (λ (g : PageGiven). g.told.is_more) (end_is low)) ∙ e))
+      read_more low (more f u) r e rest h =
+          with_rest counted low f u r rest (rw (next_place counted low f u r (sym (goes_on_lem counted low f u r) ∙ e)) at h)
+
+  -- a call's answer and its table say what the page is
+  module _ (at : ℕ) (c : Call) (answered : Answered (page c.count (length c.lent) at) c.answer c.lent c.after) where
+    abbrev given : PageGiven
+    given = page c.count (length c.lent) at
+
+    held : page_rows c ≡ given.rows
+    held = rows_held next rows n steps before at c answered
+
+    more_given : (goes : Bool) → (told c).is_more ≡ goes → given.told.is_more ≡ goes
+    more_given goes e = sym (ap (λ (t : PageTold). t.is_more) answered.told) ∙ e
+
+    room_given : Roomy c → given.told.refusal ≡ 7 → ⊥
+    room_given roomy z = roomy (ap (λ (t : PageTold). t.refusal) answered.told ∙ z)
+
+    next_given : (told c).next ≡ given.told.next
+    next_given = ap (λ (t : PageTold). t.next) answered.told
+
+    module _ (counted : 1 ≤ c.count) {k : ℕ} (low : header_size ≤ at) (u : Unbroken next n at k) where
+      call_last : Roomy c → (told c).is_more ≡ false → bare (page_rows c) ≡ bare (all at)
+      call_last roomy e = ap bare held ∙ read_last c.count (length c.lent) counted low u (room_given roomy) (more_given false e)
+
+      call_roomy : (told c).is_more ≡ true → Roomy c
+      call_roomy e z = omega (arith, named c.answer e)
+
+      call_on : (told c).is_more ≡ true → Onward k (told c).next
+      call_on e = rw next_given (read_on c.count (length c.lent) counted low u (room_given (call_roomy e)) (more_given true e))
+
+      call_more : (told c).is_more ≡ true → (rest : List Row) → bare rest ≡ bare (all (told c).next) → bare (page_rows c ++ rest) ≡ bare (all at)
+      call_more e rest h =
+          ap (λ (l : List Row). bare (l ++ rest)) held
+          ∙ read_more c.count (length c.lent) counted low u (room_given (call_roomy e)) (more_given true e) rest (rw next_given at h)
+
+  -- ---- whatever pages were read, they end, and have all
   module _ (call : ℕ → Call → Type 0) (answered : (at : ℕ) (c : Call) → call at c → Answered (page c.count (length c.lent) at) c.answer c.lent c.after)
       (counted : (at : ℕ) (c : Call) → call at c → 1 ≤ c.count) where
-    took_of : {at k : ℕ} (c : Call) → Stretch next n at k → call at c → Roomy c → Took at k (page_in c)
-    took_of {at} c l o roomy = call_took at c (answered at c o) (counted at c o) l roomy
+    pub few_pages : {at : ℕ} {calls : List Call} {goes : Bool} → Reading call at calls goes → (k : ℕ) → header_size ≤ at → Unbroken next n at k → length calls ≤ k + 1
+    few_pages (last o e) k low u = omega arith
+    few_pages {at} (further {c = c} o e rd) k low u =
+        let q = call_on at c (answered at c o) (counted at c o) low u e in
+        omega (arith, few_pages rd q.left q.low q.rest, q.fewer)
 
-    took_on : {at k : ℕ} (c : Call) → Stretch next n at k → call at c → (told c).is_more ≡ true → Took at k (page_in c)
-    took_on c l o e = took_of c l o (λ z. omega (arith, named c.answer e))
+    pub read_all : ((at : ℕ) (c : Call) → call at c → Roomy c) → {at : ℕ} {calls : List Call} {goes : Bool} → Reading call at calls goes → goes ≡ false → (k : ℕ) → header_size ≤ at → Unbroken next n at k
+        → bare (joined calls) ≡ bare (all at)
+    unfolding joined flat_map
+    read_all roomy {at} (last {c = c} o e) f k low u = ap bare (append-nil (page_rows c)) ∙ call_last at c (answered at c o) (counted at c o) low u (roomy at c o) (e ∙ f)
+    read_all roomy {at} (further {c = c} {calls = cs} o e rd) f k low u =
+        let q = call_on at c (answered at c o) (counted at c o) low u e in
+        call_more at c (answered at c o) (counted at c o) low u e (joined cs) (read_all roomy rd f q.left q.low q.rest)
 
-    pub one_page : OnePage (λ (c : Call). (told c).is_more) (λ (c : Call). (told c).next) (λ (c : Call). bare (page_rows c)) call Roomy (Stretch next n) (λ (at : ℕ). bare (all at))
-    one_page =
-        record {
-          onward = λ at k c l o e. ((took_on c l o e).going e).0;
-          joins = λ at k c l o e. joins_bare (took_on c l o e) e;
-          rest = λ at k c l o roomy e. rest_bare (took_of c l o roomy) e;
-        }
-
-  -- whatever count and table are chosen for a place, there is an answer
-  module _ (counts : ℕ → ℕ) (tables : ℕ → List Row) where
+  -- ---- with whatever counts and tables there are pages to the last
+  module _ (counts : ℕ → ℕ) (tables : ℕ → List Row) (some_rows : (at : ℕ) → 1 ≤ counts at) where
     abbrev asked : ℕ → PageGiven
     asked at = page (counts at) (length (tables at)) at
 
-    pub some_answer : (at : ℕ) → (c : Call) × Answered (page c.count (length c.lent) at) c.answer c.lent c.after × Chosen counts tables at c
-    some_answer at =
-        let a = page_answer next rows n before at (counts at) (length (tables at)) in (
-          record { count = counts at; lent = tables at; answer = a.0; after = (asked at).rows ++ drop (length (asked at).rows) (tables at) },
-          record { told = a.1; rows = refl },
-          record { count_is = refl; table_is = refl },
-        )
+    answer_at : (at : ℕ) → (p : Page) × (told_page p ≡ (asked at).told)
+    answer_at at = page_answer next rows n before at (counts at) (length (tables at))
+
+    abbrev call_at : ℕ → Call
+    call_at at =
+        record {
+          count = counts at;
+          lent = tables at;
+          answer = (answer_at at).0;
+          after = (asked at).rows ++ drop (length (asked at).rows) (tables at);
+        }
+
+    abbrev So : ℕ → Call → Type 0
+    So at c = Answered (page c.count (length c.lent) at) c.answer c.lent c.after × (1 ≤ c.count) × Chosen counts tables at c
+
+    so : (at : ℕ) → So at (call_at at)
+    so at = (record { told = (answer_at at).1; rows = refl }, some_rows at, record { count_is = refl; table_is = refl })
+
+    abbrev Reads : ℕ → Type 0
+    Reads at = (calls : List Call) × Reading So at calls false
+
+    -- the page from a place, and those after it where it names a next place
+    reads_on : (at k : ℕ) → header_size ≤ at → Unbroken next n at k → (Onward k (told (call_at at)).next → Reads (told (call_at at)).next) → Reads at
+    reads_on at k low u later =
+        either (told (call_at at)).is_more
+        (λ yes'.
+        let rest = later (call_on at (call_at at) (so at).0 (some_rows at) low u yes') in
+        (call_at at ∷ rest.0, further (so at) yes' rest.1))
+        (λ no'. (call_at at ∷ [], last (so at) no'))
+
+    reads_by : (bound at k : ℕ) → k ≤ bound → header_size ≤ at → Unbroken next n at k → Reads at
+    reads_by zero at k h low u = reads_on at k low u (λ q. absurd (omega (arith, q.fewer)))
+    reads_by (suc bound) at k h low u = reads_on at k low u (λ q. reads_by bound (told (call_at at)).next q.left (omega (arith, q.fewer)) q.low q.rest)
+
+    pub reads_all : (at k : ℕ) → header_size ≤ at → Unbroken next n at k → Reads at
+    reads_all at k low u = reads_by k at k (omega arith) low u

@@ -2,12 +2,11 @@
 use Prim.Native.Nat.{ℕ, ◌+◌, ◌≤◌}
 use lib.IntN.{pos}
 use lib.ListN.{length}
-use mathlib.Core.List.{List, [], ◌∷◌, flat_map}
+use mathlib.Core.Bool.{Bool}
+use mathlib.Core.List.{List, [], ◌∷◌}
 use mathlib.Core.Logic.{◌↔◌}
 use mathlib.Core.Option.{Option, none, some}
 use mathlib.Core.Path.{◌≡◌, refl, sym, ap, ◌∙◌}
-use native.Mathlib.Omega.{arith}
-use Rattle.lemmas.proofs.Flat.{map_flat}
 use Rattle.ticks.specs.Ticks.{unix_millis}
 use Rattle.layout.specs.Layout.{header_size, trace_limit}
 use Rattle.layout.specs.Fields.{ticks_at}
@@ -20,17 +19,15 @@ use Rattle.rows.specs.declared.Row.{Row}
 use Rattle.seam.specs.Seam.{Unbroken, Broken, seam_at, told_seam}
 use Rattle.seam.specs.declared.Seam.{Seam}
 use Rattle.seam.specs.declared.Seam.TheVariants as Seam
-use Rattle.paging.specs.Page.{with_gap}
 use Rattle.cursor.specs.Demand.{Demand}
-use Rattle.cursor.specs.Reading.{Call, page_rows, Asked, Chosen, joined, bare, rows_from}
+use Rattle.cursor.specs.Reading.{Call, Asked, Roomy, Reading, last, more, bare, rows_from}
 use Rattle.seam.proofs.Only.{only_seam}
-use Rattle.record.proofs.Walks.{by_records}
+use Rattle.seam.proofs.Walks.{by_records}
 use Rattle.seam.proofs.SeamLaws.{seam_unbroken, seam_broken}
 use Rattle.cursor.proofs.Gaps.{page_gaps}
 use Rattle.cursor.proofs.Held.{rows_held}
-use Rattle.cursor.proofs.Handed.{few_pages, read_all, reads_all}
-use Rattle.cursor.proofs.Pages.{bare_append, Stretch, rows_stop, rows_on}
-use Rattle.cursor.proofs.Readings.{one_page, some_answer}
+use Rattle.cursor.proofs.Pages.{bare_append, rows_stop, rows_on}
+use Rattle.cursor.proofs.Readings.{few_pages, read_all, reads_all}
 
 -- a record's rows have no gaps
 bare_numbered : (s : List ℕ) (at k : ℕ) (fs : List Placed) → bare (numbered s at k fs) ≡ numbered s at k fs
@@ -42,10 +39,10 @@ bare_record : (kinds s : List ℕ) (at : ℕ) → bare (rows_at kinds s at) ≡ 
 unfolding rows_at
 bare_record kinds s at = bare_numbered s at 0 (frames_at kinds s at 0)
 
--- pages joined, gaps aside, are their rows, gaps aside, joined
-bare_joined : (calls : List Call) → bare (joined calls) ≡ flat_map (λ (c : Call). bare (page_rows c)) calls
-unfolding bare joined
-bare_joined calls = map_flat (with_gap (pos 0)) page_rows calls
+-- calls of a kind are calls of another that has them all
+pub reading_of : {A B : ℕ → Call → Type 0} → ((at : ℕ) (c : Call) → A at c → B at c) → {at : ℕ} {calls : List Call} {goes : Bool} → Reading A at calls goes → Reading B at calls goes
+reading_of f {at} (last {c = c} o e) = last (f at c o) e
+reading_of f {at} (more {c = c} o e rd) = more (f at c o) e (reading_of f rd)
 
 module _ (limits : Limits) (kinds s : List ℕ) where
   abbrev next : ℕ → Option ℕ
@@ -70,6 +67,9 @@ module _ (limits : Limits) (kinds s : List ℕ) where
   all_bare = by_records next (length s) steps (λ (at : ℕ). bare (all at) ≡ all at) none_bare more_bare
 
   module _ (place : ℕ) (check : Seam) (fits : length s ≤ trace_limit) (low : header_size ≤ place) (high : place ≤ length s) (checked : told_seam check ≡ seam_at limits kinds s place) where
+    abbrev Ok : ℕ → Call → Type 0
+    Ok = Asked limits kinds s
+
     -- what the check says
     says_unbroken : (k : ℕ) → (check ≡ Seam.Unbroken k) ↔ Unbroken next (length s) place k
     says_unbroken k =
@@ -81,24 +81,18 @@ module _ (limits : Limits) (kinds s : List ℕ) where
         let law = seam_broken limits kinds s place fits low high at k in
         (λ e. law.0 (sym checked ∙ ap told_seam e), λ b. only_seam check (Seam.Broken at k) (checked ∙ law.1 b))
 
-    stretch : (k : ℕ) → check ≡ Seam.Unbroken k → Stretch next (length s) place k
-    stretch k e = record { low = low; rest = (says_unbroken k).0 e }
-
-    -- the induction over pages, at its instance of today
     pub demanded : Demand limits kinds s place check
     demanded =
-        let page = one_page next (rows_at kinds s) (length s) steps none fits (Asked limits kinds s) (λ at c o. o.answered) (λ at c o. o.counted) in
         record {
           unbroken = says_unbroken;
           broken = says_broken;
-          ends = λ k e calls goes rd. few_pages page rd k (stretch k e);
+          ends = λ k e calls goes rd. few_pages next (rows_at kinds s) (length s) steps none fits Ok (λ at c o. o.answered) (λ at c o. o.counted) rd k low ((says_unbroken k).0 e);
           reads = λ k e counts tables h.
-              reads_all page (Chosen counts tables)
-              (λ at.
-              let a = some_answer next (rows_at kinds s) (length s) steps none fits counts tables at in
-              (a.0, record { answered = a.1; counted = omega (arith, h at, a.2.count_is) }, a.2))
-              place k (stretch k e);
-          whole = λ k e calls rd. bare_joined calls ∙ read_all page rd refl k (stretch k e) ∙ all_bare place;
+              let all_read = reads_all next (rows_at kinds s) (length s) steps none fits counts tables h place k low ((says_unbroken k).0 e) in
+              (all_read.0, reading_of (λ at c o. (record { answered = o.0; counted = o.1 }, o.2)) all_read.1);
+          whole = λ k e calls rd.
+              read_all next (rows_at kinds s) (length s) steps none fits (λ (at : ℕ) (c : Call). Ok at c × Roomy c) (λ at c o. o.0.answered) (λ at c o. o.0.counted) (λ at c o. o.1) rd refl k low ((says_unbroken k).0 e)
+              ∙ all_bare place;
           gaps = λ at c o.
               rw (rows_held next (rows_at kinds s) (length s) steps none at c o.answered) (page_gaps next (rows_at kinds s) (length s) none at c.count (length c.lent));
         }

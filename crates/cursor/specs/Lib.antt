@@ -1,4 +1,3 @@
 pub mod Table
-pub mod Handed
 pub mod Reading
 pub mod Demand

@@ -1,17 +1,14 @@
 -- Reading page after page, each from the place that the last one named, over what a caller holds.
-use Rattle.std.specs.Prelude.{ℕ, ◌+◌, ◌≤◌, ◌<◌, ℤ, pos, ◌-ℤ◌, length, take, get_or, Bool, ◌≡◌}
-use mathlib.Core.List.{List, [], ◌++◌, flat_map, map}
+use Rattle.std.specs.Prelude.{ℕ, ◌+◌, ◌≤◌, ◌<◌, ℤ, pos, ◌-ℤ◌, length, take, get_or, Bool, true, ◌≡◌}
+use mathlib.Core.List.{List, [], ◌∷◌, ◌++◌, flat_map, map}
 use Rattle.std.proofs.Math.Option.{Option, none}
 use Rattle.record.specs.Record.{Limits}
 use Rattle.rows.specs.declared.Row.{Row}
-use Rattle.record.specs.Walk.{walk}
-use Rattle.rows.specs.Rows.{gap_of, blank_row}
+use Rattle.seam.specs.Walk.{walk}
+use Rattle.steps.specs.Step.{gap_of, blank_row}
 use Rattle.paging.specs.Page.{with_gap, PageTold, told_page, page_at}
 use Rattle.paging.specs.declared.Page.{Page}
-use Rattle.cursor.specs.Handed.{Handed}
 use Rattle.cursor.specs.Table.{Answered}
--- the two ways of `Reading`, for whoever takes one apart
-pub use Rattle.cursor.specs.Handed.{last, more}
 
 -- a call of `frames_at` as its caller has it: the count asked for, the table that was lent, the answer, and the table afterwards
 pub record Call : Type 0 where
@@ -43,9 +40,11 @@ pub record Chosen (counts : ℕ → ℕ) (tables : ℕ → List Row) (at : ℕ) 
   pub table_is : c.lent ≡ tables at
 
 -- "read pages from there, each from the place the last one named": calls of a kind, one after the other, the first from a place; and whether the
--- last of them names a place to go on from. Nothing but the place is handed on
-abbrev pub Reading : (ℕ → Call → Type 0) → ℕ → List Call → Bool → Type 0
-Reading call at calls goes = Handed (λ (c : Call). (told c).is_more) (λ (c : Call). (told c).next) call at calls goes
+-- last of them names a place to go on from
+pub data Reading (call : ℕ → Call → Type 0) : ℕ → List Call → Bool → Type 0 where
+  last : {at : ℕ} {c : Call} {goes : Bool} → call at c → (told c).is_more ≡ goes → Reading call at (c ∷ []) goes
+  more : {at : ℕ} {c : Call} {calls : List Call} {goes : Bool} → call at c → (told c).is_more ≡ true
+      → Reading call (told c).next calls goes → Reading call at (c ∷ calls) goes
 
 -- the rows of some pages, joined
 unfoldable pub joined : List Call → List Row

@@ -2,7 +2,7 @@
 use Rattle.std.specs.Prelude.{length, drop, replicate, List, ◌++◌, ◌≡◌}
 use Rattle.rows.specs.declared.Row.{Row}
 use Rattle.paging.specs.Page.{PageGiven, told_page}
-use Rattle.rows.specs.Rows.{blank_row}
+use Rattle.steps.specs.Step.{blank_row}
 use Rattle.paging.specs.declared.Page.{Page}
 
 -- a page's answer and the rows lent, afterwards: "Rows past those written are untouched"

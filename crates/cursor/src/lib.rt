@@ -3,12 +3,12 @@ ghost use Rattle.std.specs.Prelude.{◌≡◌, ◌≤◌, length, drop, ◌++◌
 ghost use Rattle.record.specs.Record.{plausible};
 ghost use Rattle.std.proofs.Math.Option.{none};
 ghost use Rattle.paging.specs.Page.{page_at};
-ghost use Rattle.row_steps.specs.Step.{rows_of};
+ghost use Rattle.steps.specs.Step.{rows_of};
 ghost use Rattle.cursor.specs.Table.{Answered, blanks};
 
 use paging::Page;
-use row_steps::Place;
 use rows::Row;
+use steps::Place;
 
 // A page with a table of its own.
 #[derive(Drop)]
@@ -25,7 +25,7 @@ fn fill(kinds: &[u8; 256], s: &[u8], table: &mut [Row], p: Place, n: usize) -> P
     let mut at = p;
     let mut i = 0;
     while i < n {
-        let st = row_steps::step_at(kinds, s, at);
+        let st = steps::step_at(kinds, s, at);
         table[i] = st.row;
         at = st.next;
         i += 1;
@@ -53,7 +53,7 @@ pub fn frames_at(
 pub fn frames_table(kinds: &[u8; 256], s: &[u8], offset: usize, count: usize) -> Table
     ensures { Answered (page_at plausible kinds.now s.now none offset count 600) result.page blanks result.rows }
 {
-    let mut rows = [rows::blank(); 600];
+    let mut rows = [steps::blank(); 600];
     let page = frames_at(kinds, s, offset, count, &mut rows);
     Table { page, rows }
 }

@@ -1,7 +1,6 @@
 // What the figures are run on: bytes, made one part after the other in a lent buffer, and a kind table.
 use crate::line;
 use crate::line::Numbers;
-use layout::HEADER_CRC_OFFSET;
 
 // How many bytes are made, and the entries 1 to 4 of the kind table as the digits of a number; the others are 0.
 #[derive(Drop)]
@@ -64,8 +63,8 @@ fn again(s: &mut [u8], at: usize, back: usize, count: usize) -> usize {
 
 // The header's sum: "over bytes 0 to 2,045, stored low byte first at 2,046".
 fn seal(s: &mut [u8]) {
-    let n = checksum::header_sum(part(s, HEADER_CRC_OFFSET));
-    number(s, HEADER_CRC_OFFSET, n as u64, 2);
+    let n = checksum::header_sum(part(s, 2046));
+    number(s, 2046, n as u64, 2);
 }
 
 // How many bytes are made after a line.

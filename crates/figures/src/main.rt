@@ -1,6 +1,6 @@
 // The figures of document 01 that are run. Standard input (the file `stdin`, which says how it is read) names each figure, says what it is run on
 // and which function is asked; the answer is printed after the name, a line for each figure, held to the file `stdout`. Those that 01 marks P
-// are proved, in the crate `proved_figures`.
+// are proved, in the crate `marked`.
 mod bodies; // bracket records, PTI frames, beams, speeds; milliseconds
 mod bytes; // the Zniffer's bytes
 mod line; // the numbers and bytes of a line

@@ -2,17 +2,18 @@
 use crate::line::Numbers;
 use crate::say;
 use paging::Page;
+use rows::Row;
 use seam::{Opening, Seam};
 
 fn opening(o: Opening) {
-    let number = o.refusal() as u64;
     match o {
         Opening::Opened { version } => say::letter(b'V', version as u64),
+        Opening::TraceTooLong => say::letter(b'R', 1),
+        Opening::TraceTooShort => say::letter(b'R', 2),
         Opening::OtherVersion { version } => {
-            say::letter(b'R', number);
+            say::letter(b'R', 4);
             say::field(version as u64);
         }
-        _ => say::letter(b'R', number),
     }
 }
 
@@ -23,7 +24,8 @@ fn seam(s: Seam) {
             say::letter(b'B', place as u64);
             say::field(records as u64);
         }
-        _ => say::letter(b'R', s.refusal() as u64),
+        Seam::TraceTooLong => say::letter(b'R', 1),
+        Seam::PlaceOutside => say::letter(b'R', 6),
     }
 }
 
@@ -38,8 +40,27 @@ fn page(p: Page) {
             say::fields(start as u64, size as u64);
             say::none();
         }
-        _ => say::letter(b'R', p.refusal() as u64),
+        Page::TraceTooLong => say::letter(b'R', 1),
+        Page::WindowTooLong => say::letter(b'R', 5),
+        Page::TableTooShort => say::letter(b'R', 7),
     }
+}
+
+// A row's fields in order, R or T for direction.
+fn row(r: Row) {
+    say::fields(r.record as u64, r.position as u64);
+    say::signed(r.millis);
+    say::signed(r.gap);
+    side(r.direction);
+    say::three(r.region, r.channel, r.speed);
+    say::heard(r.rssi, r.beam_count, r.mpdu, r.mpdu_len);
+}
+
+fn side(direction: u8) {
+    if direction == 0 {
+        return say::text(b" R");
+    }
+    say::text(b" T");
 }
 
 // A page of a table of 600 rows, or the table's first row.
@@ -50,7 +71,7 @@ fn paged(letter: u8, kinds: &[u8; 256], s: &[u8], offset: usize, count: usize) {
         return page(p);
     }
     let list = table.rows;
-    say::row(list[0]);
+    row(list[0]);
 }
 
 pub fn ask(letter: u8, s: &[u8], kinds: &[u8; 256], n: Numbers) {

@@ -26,7 +26,8 @@ fn search(r: Search) {
             say::none();
             say::field(judged as u64);
         }
-        _ => say::letter(b'R', r.refusal() as u64),
+        Search::TraceTooLong => say::letter(b'R', 1),
+        Search::WindowTooLong => say::letter(b'R', 5),
     }
 }
 

@@ -1,7 +1,6 @@
 // What is printed: fields with a space before each.
 use crate::made;
 use libc::STDOUT_FILENO;
-use rows::Row;
 
 pub fn text(t: &[u8]) {
     io::write_all(STDOUT_FILENO, t);
@@ -13,9 +12,8 @@ pub fn end() {
 
 // A number.
 pub fn field(n: u64) {
-    let mut put = [0u8; 32];
-    let end = lines::put_field(&mut put, 0, n);
-    text(made::part(&put, end));
+    text(b" ");
+    io::print_decimal(STDOUT_FILENO, n);
 }
 
 pub fn fields(a: u64, b: u64) {
@@ -24,23 +22,12 @@ pub fn fields(a: u64, b: u64) {
 }
 
 pub fn signed(z: i64) {
-    let mut put = [0u8; 32];
-    let end = lines::put_signed_field(&mut put, 0, z);
-    text(made::part(&put, end));
-}
-
-// A row's fields in order, R or T for direction: its line, without its letter and its end.
-pub fn row(r: Row) {
-    let mut put = [0u8; 256];
-    let end = lines::put_row(&mut put, 0, r);
-    text(after_letter(made::part(&put, end)));
-}
-
-fn after_letter(line: &[u8]) -> &[u8] {
-    if line.len() == 0 {
-        return line;
+    if z < 0 {
+        text(b" -");
+        io::print_decimal(STDOUT_FILENO, text::magnitude(z));
+        return;
     }
-    &line[1..]
+    field(text::magnitude(z));
 }
 
 // Bytes in hexadecimal, or - where there is none.
@@ -80,9 +67,17 @@ pub fn three(a: u8, b: u8, c: u8) {
     field(c as u64);
 }
 
-// What a PTI frame ends with: RSSI, beam count, MPDU place and length.
+// What a row and a PTI frame end with: RSSI, beam count, MPDU place and length.
 pub fn heard(rssi: i8, beams: u16, mpdu: usize, len: usize) {
-    signed(numbers::from_i8(rssi));
+    signed(from_i8(rssi));
     field(beams as u64);
     fields(mpdu as u64, len as u64);
+}
+
+fn from_i8(x: i8) -> i64 {
+    x as i64
+}
+
+pub fn from_i32(x: i32) -> i64 {
+    x as i64
 }

@@ -19,7 +19,7 @@ fn whole(t: SeekTime) {
             say::none();
             say::field(halvings as u64);
         }
-        _ => say::letter(b'R', t.refusal() as u64),
+        SeekTime::TraceTooLong => say::letter(b'R', 1),
     }
 }
 
@@ -55,7 +55,8 @@ fn step(s: SeekStep) {
             say::text(b" done");
             found(f);
         }
-        _ => say::letter(b'R', s.refusal() as u64),
+        SeekStep::TraceTooLong => say::letter(b'R', 1),
+        SeekStep::WindowTooLong => say::letter(b'R', 5),
     }
 }
 

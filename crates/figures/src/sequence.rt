@@ -14,17 +14,18 @@ fn reader_fields(r: ZlfReader) {
 }
 
 fn opening(o: Opening) {
-    let number = o.refusal() as u64;
     match o {
         Opening::Opened { version, reader } => {
             say::letter(b'V', version as u64);
             reader_fields(reader);
         }
+        Opening::TraceTooLong => say::letter(b'R', 1),
+        Opening::TraceTooShort => say::letter(b'R', 2),
+        Opening::InvalidHeaderChecksum => say::letter(b'R', 3),
         Opening::InvalidZlfVersion { version } => {
-            say::letter(b'R', number);
+            say::letter(b'R', 4);
             say::field(version as u64);
         }
-        _ => say::letter(b'R', number),
     }
 }
 
@@ -38,7 +39,6 @@ fn record(r: ZlfRecord) {
 
 // The answer, then the reader's place and count.
 fn next(n: Next) {
-    let number = n.refusal() as u64;
     match n {
         Next::Record { header, reader } => {
             record(header);
@@ -48,14 +48,14 @@ fn next(n: Next) {
             say::none();
             reader_fields(reader);
         }
-        Next::TraceTooLong { reader } => refused(number, reader),
+        Next::TraceTooLong { reader } => refused(1, reader),
         Next::InvalidPayloadLength { length, reader } => {
-            say::letter(b'R', number);
-            say::signed(numbers::from_i32(length));
+            say::letter(b'R', 8);
+            say::signed(say::from_i32(length));
             reader_fields(reader);
         }
-        Next::EofInHead { reader } => refused(number, reader),
-        Next::EofInPayload { reader } => refused(number, reader),
+        Next::EofInHead { reader } => refused(9, reader),
+        Next::EofInPayload { reader } => refused(10, reader),
     }
 }
 

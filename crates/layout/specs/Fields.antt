@@ -1,10 +1,6 @@
--- The header's version, and the fields of the record at a place of a trace, as every crate above reads them.
+-- The fields of the record at a place of a trace, as every crate above reads them.
 use Rattle.std.specs.Prelude.{ℕ, ◌+◌, ◌/◌, ◌%◌, eqb, get_or, Bool, List}
-use Rattle.layout.specs.Layout.{le_at, kind_of, properties_part, length_part, payload_part, payload_of}
-
--- 01: "the version (first four bytes)"
-abbrev pub version_of : List ℕ → ℕ
-version_of s = le_at 4 s 0
+use Rattle.layout.specs.Layout.{le_at, kind_of, properties_part, length_part, payload_part}
 
 -- 01: "A record is ticks (8), properties (1), length (4), payload, end byte (1), all little-endian"
 abbrev pub ticks_at : List ℕ → ℕ → ℕ
@@ -16,10 +12,6 @@ properties_at s at = get_or s (at + properties_part) 0
 -- the length's four bytes; a negative length reads here as 2 ^ 31 or more
 abbrev pub length_at : List ℕ → ℕ → ℕ
 length_at s at = le_at 4 s (at + length_part)
-
--- the payload, by the record's own length
-abbrev pub payload_at : List ℕ → ℕ → List ℕ
-payload_at s at = payload_of (length_at s at) s at
 
 -- 01: "Bit 7 of properties marks an outgoing record, the rest is the session"
 abbrev pub outgoing_at : List ℕ → ℕ → Bool

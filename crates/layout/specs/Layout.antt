@@ -1,5 +1,5 @@
 -- The layout that every crate above reads by: numbers at a place of a trace, the kind of an end byte, and the layout's fixed numbers.
-use Rattle.std.specs.Prelude.{ℕ, zero, suc, ◌+◌, ◌*◌, ◌^◌, leb, get_or, take, drop, cond, List}
+use Rattle.std.specs.Prelude.{ℕ, zero, suc, ◌+◌, ◌*◌, ◌^◌, leb, get_or, cond, List}
 
 -- 01: "all little-endian": the number of the n bytes at a place, low byte first, so that byte k counts 256 ^ k; a byte past the end reads as 0
 unfoldable pub le_at : ℕ → List ℕ → ℕ → ℕ
@@ -18,14 +18,6 @@ header_size = 2048
 abbrev pub trace_limit : ℕ
 trace_limit = 1073741824
 
--- 01: the header's sum is "over bytes 0 to 2,045, stored low byte first at 2,046"
-abbrev pub sum_part : ℕ
-sum_part = 2046
-
--- 01: "the signed length is 1 to 1,048,576"
-abbrev pub payload_limit : ℕ
-payload_limit = 1048576
-
 -- 01: "ticks (8), properties (1), length (4), payload, end byte (1)": where each part of a record begins, from the record's place
 abbrev pub properties_part : ℕ
 properties_part = 8
@@ -35,7 +27,3 @@ length_part = 9
 
 abbrev pub payload_part : ℕ
 payload_part = 13
-
--- a record's payload by a length: so many bytes from its part on, as far as they are there
-abbrev pub payload_of : ℕ → List ℕ → ℕ → List ℕ
-payload_of len s at = take len (drop (at + payload_part) s)

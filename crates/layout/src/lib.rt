@@ -1,18 +1,12 @@
-// Numbers at a place of a trace, a record's payload, the kind of an end byte, and the layout's fixed numbers.
+// Numbers at a place of a trace, the kind of an end byte, and the layout's fixed numbers.
 ghost use Rattle.std.specs.Prelude.{◌≡◌, ◌+◌, ◌*◌, ◌<◌, get_or};
-ghost use Rattle.layout.specs.Layout.{le_at, kind_of, payload_of};
+ghost use Rattle.layout.specs.Layout.{le_at, kind_of};
 
 // Bytes of the header; the first record follows it.
 pub const ZLF_HEADER_SIZE: usize = 2048;
 
-// Where the header's sum stands, after the bytes that it is of.
-pub const HEADER_CRC_OFFSET: usize = 2046;
-
 // The longest trace that is read.
 pub const TRACE_LIMIT: usize = 1_073_741_824;
-
-// Largest payload considered plausible.
-pub const MAX_PAYLOAD: usize = 1_048_576;
 
 // Bytes of a record that precede its payload: ticks (8), properties (1), length (4).
 pub const RECORD_HEADER: usize = 13;
@@ -103,21 +97,4 @@ pub fn kind_of(kinds: &[u8; 256], end: u8) -> u8
     let i = end as usize;
     let kind = kinds[i];
     if kind <= OTHER { kind } else { UNKNOWN }
-}
-
-// The payload of the record at a place, by its length; as much of it as is there.
-pub fn payload(s: &[u8], at: usize, len: usize) -> &[u8]
-    ensures { result.now ≡ payload_of len s.now at }
-{
-    if s.len() < RECORD_HEADER {
-        return &s[..0];
-    }
-    if s.len() - RECORD_HEADER < at {
-        return &s[..0];
-    }
-    let rest = &s[at + RECORD_HEADER..];
-    if rest.len() < len {
-        return rest;
-    }
-    &rest[..len]
 }

@@ -1,6 +1,5 @@
 -- Laws on lines put into a buffer, field after field. Assumes nothing.
-use Prim.Native.Nat.{ℕ, ◌+◌, ◌<◌}
-use lib.ListN.{length, get_or, drop}
+use Prim.Native.Nat.{ℕ}
 use mathlib.Core.List.{List, [], ◌∷◌, ◌++◌, append_assoc, append-nil}
 use mathlib.Core.Path.{◌≡◌, refl, sym, ap, ◌∙◌}
 use lib.IntN.{ℤ}
@@ -8,11 +7,10 @@ use mir.Facts.{sfits_widen}
 use mir.Syntax.{w8, w64}
 use mir.Val.{to_z, of_z, SFits}
 use mir.ValLaws.{to_z-of_z}
-use Rattle.lemmas.proofs.Laid.{next_byte}
 use Rattle.text.specs.Put.{Put}
-use Rattle.text.specs.Texts.{space, decimal_text, signed_text}
+use Rattle.text.specs.Texts.{space, signed_text}
 use Rattle.text.proofs.Puts.{joined, renamed}
-use Rattle.lines.specs.Lines.{newline, spaced, Fields, number_fields, lettered, line_text}
+use Rattle.lines.specs.Lines.{newline, spaced, Fields, line_text}
 
 spaced_append : (a b : List (List ℕ)) → spaced (a ++ b) ≡ spaced a ++ spaced b
 unfolding spaced
@@ -29,35 +27,15 @@ pub fields : {a b : List (List ℕ)} {out₀ out₁ out₂ : List ℕ} {r₀ r�
     → Fields (a ++ b) out₀ r₀ out₂ r₂
 fields {a} {b} p q = record { puts = renamed (sym (spaced_append a b)) (joined p.puts q.puts) }
 
--- the fields of the numbers from a place on are that of the number there and those after it
-pub next_field : (l : List ℕ) (i : ℕ) → i < length l
-    → spaced (number_fields (drop i l)) ≡ spaced (decimal_text (get_or l i 0) ∷ []) ++ spaced (number_fields (drop (i + 1) l))
-next_field l i h =
-    ap (λ (m : List ℕ). spaced (number_fields m)) (next_byte l i h)
-    ∙ spaced_append (decimal_text (get_or l i 0) ∷ []) (number_fields (drop (i + 1) l))
-
--- a letter and fields
-pub start : {letter : ℕ} {a : List (List ℕ)} {out₀ out₁ out₂ : List ℕ} {r₀ r₁ r₂ : ℕ} → Put (letter ∷ []) out₀ r₀ out₁ r₁ → Fields a out₁ r₁ out₂ r₂
-    → Put (lettered letter a) out₀ r₀ out₂ r₂
-start p q = joined p q.puts
-
--- and more fields
-pub longer : (a : List (List ℕ)) {letter : ℕ} {b : List (List ℕ)} {out₀ out₁ out₂ : List ℕ} {r₀ r₁ r₂ : ℕ} → Put (lettered letter a) out₀ r₀ out₁ r₁ → Fields b out₁ r₁ out₂ r₂
-    → Put (lettered letter (a ++ b)) out₀ r₀ out₂ r₂
-longer a {letter} {b} p q = renamed (ap (λ (t : List ℕ). letter ∷ t) (sym (spaced_append a b))) (joined p q.puts)
-
 -- a letter, fields and a line's end are a line
 pub line : {letter : ℕ} {a : List (List ℕ)} {out₀ out₁ out₂ out₃ : List ℕ} {r₀ r₁ r₂ r₃ : ℕ} → Put (letter ∷ []) out₀ r₀ out₁ r₁ → Fields a out₁ r₁ out₂ r₂
     → Put (newline ∷ []) out₂ r₂ out₃ r₃ → Put (line_text letter a) out₀ r₀ out₃ r₃
 unfolding line_text
 line p q n = joined p (joined q.puts n)
 
--- the same fields by another name
-pub same_fields : {a b : List (List ℕ)} {out₀ out₁ : List ℕ} {r₀ r₁ : ℕ} → a ≡ b → Fields a out₀ r₀ out₁ r₁ → Fields b out₀ r₀ out₁ r₁
-same_fields e p = record { puts = renamed (ap spaced e) p.puts }
-
+-- the same field by another name
 pub same_field : {a b out₀ out₁ : List ℕ} {r₀ r₁ : ℕ} → a ≡ b → Fields (a ∷ []) out₀ r₀ out₁ r₁ → Fields (b ∷ []) out₀ r₀ out₁ r₁
-same_field e = same_fields (ap (λ (t : List ℕ). t ∷ []) e)
+same_field e p = record { puts = renamed (ap (λ (t : List ℕ). spaced (t ∷ [])) e) p.puts }
 
 -- a signed number that is kept as its bits
 pub kept : (z : ℤ) → SFits w64 z → signed_text (to_z w64 (of_z w64 z)) ≡ signed_text z

@@ -1,12 +1,11 @@
--- Bare lines, those of `trace_list` and of `zlf --plain`: a letter, its fields each after a space, and the line's end.
-use Prim.Native.Char.{code}
-use Rattle.std.specs.Prelude.{ℕ, eqb, cond, List, [], ◌∷◌, ◌++◌, map}
+-- The lines of a list: a letter, its fields each after a space, and the line's end.
+use Rattle.std.specs.Prelude.{ℕ, eqb, cond, List, [], ◌∷◌, ◌++◌}
 use Rattle.text.specs.Put.{Put}
 use Rattle.text.specs.Texts.{space, decimal_text, signed_text}
 use Rattle.rows.specs.declared.Row.{Row}
 
 abbrev pub newline : ℕ
-newline = code "\n"
+newline = 0x0A
 
 -- fields, each after a space
 unfoldable pub spaced : List (List ℕ) → List ℕ
@@ -17,20 +16,12 @@ spaced (f ∷ fs) = (space ∷ f) ++ spaced fs
 pub record Fields (fields : List (List ℕ)) (before : List ℕ) (at : ℕ) (after : List ℕ) (r : ℕ) : Type 0 where
   pub puts : Put (spaced fields) before at after r
 
--- numbers, as fields
-abbrev pub number_fields : List ℕ → List (List ℕ)
-number_fields numbers = map decimal_text numbers
-
--- a letter and fields: a line before its end
-abbrev pub lettered : ℕ → List (List ℕ) → List ℕ
-lettered letter fields = letter ∷ spaced fields
-
 unfoldable pub line_text : ℕ → List (List ℕ) → List ℕ
-line_text letter fields = lettered letter fields ++ (newline ∷ [])
+line_text letter fields = (letter ∷ spaced fields) ++ (newline ∷ [])
 
 -- `R` received, `T` sent
 abbrev pub side_of : ℕ → ℕ
-side_of direction = cond (eqb direction 0) (code "R") (code "T")
+side_of direction = cond (eqb direction 0) 0x52 0x54
 
 -- 01: "record offset, position in the record, milliseconds, gap to the previous row's time"
 abbrev pub origin_fields : Row → List (List ℕ)
@@ -45,28 +36,21 @@ abbrev pub mpdu_fields : Row → List (List ℕ)
 mpdu_fields r = signed_text r.rssi ∷ decimal_text r.beam_count ∷ decimal_text r.mpdu ∷ decimal_text r.mpdu_len ∷ []
 
 -- 01: "F's fields are the row's in order, R or T for direction"
-abbrev pub row_fields : Row → List (List ℕ)
-row_fields r = origin_fields r ++ (radio_fields r ++ mpdu_fields r)
-
--- a row's line before its end
-abbrev pub row_start : Row → List ℕ
-row_start r = lettered (code "F") (row_fields r)
-
 unfoldable pub row_text : Row → List ℕ
-row_text r = line_text (code "F") (row_fields r)
+row_text r = line_text 0x46 (origin_fields r ++ (radio_fields r ++ mpdu_fields r))
 
 -- 01: "`R n`", "`V version`", "`U place records` or `B place break records`, or `N`"
 abbrev pub refusal_text : ℕ → List ℕ
-refusal_text n = line_text (code "R") (decimal_text n ∷ [])
+refusal_text n = line_text 0x52 (decimal_text n ∷ [])
 
 abbrev pub version_text : ℕ → List ℕ
-version_text version = line_text (code "V") (decimal_text version ∷ [])
+version_text version = line_text 0x56 (decimal_text version ∷ [])
 
 abbrev pub unbroken_text : ℕ → ℕ → List ℕ
-unbroken_text place records = line_text (code "U") (decimal_text place ∷ decimal_text records ∷ [])
+unbroken_text place records = line_text 0x55 (decimal_text place ∷ decimal_text records ∷ [])
 
 abbrev pub broken_text : ℕ → ℕ → ℕ → List ℕ
-broken_text place stop records = line_text (code "B") (decimal_text place ∷ decimal_text stop ∷ decimal_text records ∷ [])
+broken_text place stop records = line_text 0x42 (decimal_text place ∷ decimal_text stop ∷ decimal_text records ∷ [])
 
 abbrev pub none_text : List ℕ
-none_text = line_text (code "N") []
+none_text = line_text 0x4E []

@@ -13,11 +13,11 @@ use mir.Val.{to_z, of_z, SFits, Fits}
 use mir.ValLaws.{to_z-of_z}
 use native.Mathlib.Omega.{arith}
 use Rattle.calendar.specs.Calendar.{date_of}
-use Rattle.timestamps.specs.Written.{unix_epoch, iso_text}
-use Rattle.lemmas.proofs.Choice.{either}
+use Rattle.written.specs.Written.{unix_epoch, iso_text}
+use Rattle.choice.proofs.Choice.{either}
 use Rattle.text.proofs.Negative.{clash}
 use Rattle.text.specs.Texts.{signed_text, hex_text}
-use Rattle.names.specs.Names.{years_end, unix_instant, time_text, region_index, bytes_text}
+use Rattle.names.specs.Names.{years_end, instant_of, time_text, region_index, bytes_text}
 
 -- bytes, and none
 pub no_bytes : (s : List ℕ) → length s ≡ 0 → 0x2D ∷ [] ≡ bytes_text s
@@ -57,18 +57,18 @@ too_much : (a b c : ℕ) → 1 ≤ c → a + c ≤ a - b → ⊥
 too_much a b c p h = omega arith
 
 -- an instant on either side of the epoch
-early : (z : ℤ) → lt_z z (pos 0) ≡ true → nat_abs z ≤ unix_epoch → unix_epoch - nat_abs z ≡ unix_instant z
-unfolding unix_instant
+early : (z : ℤ) → lt_z z (pos 0) ≡ true → nat_abs z ≤ unix_epoch → unix_epoch - nat_abs z ≡ instant_of z
+unfolding instant_of
 early (pos n) h l = clash n h
 early (negsuc n) h l = simp (le-leb (suc n) unix_epoch l)
 
-too_early : (z : ℤ) → lt_z z (pos 0) ≡ true → unix_epoch < nat_abs z → unix_epoch + years_end ≡ unix_instant z
-unfolding unix_instant
+too_early : (z : ℤ) → lt_z z (pos 0) ≡ true → unix_epoch < nat_abs z → unix_epoch + years_end ≡ instant_of z
+unfolding instant_of
 too_early (pos n) h l = clash n h
 too_early (negsuc n) h l = simp (lt-leb (suc n) unix_epoch l)
 
-late : (z : ℤ) → lt_z z (pos 0) ≡ false → unix_epoch + nat_abs z ≡ unix_instant z
-unfolding unix_instant
+late : (z : ℤ) → lt_z z (pos 0) ≡ false → unix_epoch + nat_abs z ≡ instant_of z
+unfolding instant_of
 late (pos n) h = refl
 late (negsuc n) h = absurd (true≢false h)
 
@@ -84,38 +84,38 @@ module _ (z : ℤ) (f : SFits w64 z) (n : ℕ) (q : n ≡ nat_abs (to_z w64 (of_
   size : n ≡ nat_abs z
   size = q ∙ ap nat_abs held
 
-  pub before_epoch : lt_z (to_z w64 (of_z w64 z)) (pos 0) ≡ true → n ≤ unix_epoch → unix_epoch - n ≡ unix_instant z
+  pub before_epoch : lt_z (to_z w64 (of_z w64 z)) (pos 0) ≡ true → n ≤ unix_epoch → unix_epoch - n ≡ instant_of z
   before_epoch s h = rw size (early z (rw held at s) (rw size at h))
 
-  pub before_all : lt_z (to_z w64 (of_z w64 z)) (pos 0) ≡ true → unix_epoch < n → unix_epoch + years_end ≡ unix_instant z
+  pub before_all : lt_z (to_z w64 (of_z w64 z)) (pos 0) ≡ true → unix_epoch < n → unix_epoch + years_end ≡ instant_of z
   before_all s h = too_early z (rw held at s) (rw size at h)
 
   pub after_fits : Fits w64 (unix_epoch + n)
   after_fits = rw size (late_fits z f)
 
-  pub after_epoch : lt_z (to_z w64 (of_z w64 z)) (pos 0) ≡ false → unix_epoch + n ≡ unix_instant z
+  pub after_epoch : lt_z (to_z w64 (of_z w64 z)) (pos 0) ≡ false → unix_epoch + n ≡ instant_of z
   after_epoch s = rw size (late z (rw held at s))
 
 -- a time by its instant
-with_date : (z : ℤ) → unix_instant z < unix_epoch + years_end → iso_text (date_of (unix_instant z)) ≡ time_text z
-unfolding unix_instant time_text
+with_date : (z : ℤ) → instant_of z < unix_epoch + years_end → iso_text (date_of (instant_of z)) ≡ time_text z
+unfolding instant_of time_text
 with_date (pos n) h = simp (lt-ltb n years_end (omega (arith, h)))
 with_date (negsuc n) h =
     either (leb (suc n) unix_epoch)
     (λ e. simp e)
     (λ e. absurd (less_than_itself (unix_epoch + years_end) (simp e at h)))
 
-with_none : (z : ℤ) → unix_epoch + years_end ≤ unix_instant z → signed_text z ≡ time_text z
-unfolding unix_instant time_text
+with_none : (z : ℤ) → unix_epoch + years_end ≤ instant_of z → signed_text z ≡ time_text z
+unfolding instant_of time_text
 with_none (pos n) h = simp (le-ltb n years_end (omega (arith, h)))
 with_none (negsuc n) h =
     either (leb (suc n) unix_epoch)
     (λ e. absurd (too_much unix_epoch (suc n) years_end (omega arith) (simp e at h)))
     (λ e. simp e)
 
-module _ (z : ℤ) (f : SFits w64 z) (i : ℕ) (q : i ≡ unix_instant (to_z w64 (of_z w64 z))) where
-  is : i ≡ unix_instant z
-  is = q ∙ ap unix_instant (to_z-of_z w64 z f)
+module _ (z : ℤ) (f : SFits w64 z) (i : ℕ) (q : i ≡ instant_of (to_z w64 (of_z w64 z))) where
+  is : i ≡ instant_of z
+  is = q ∙ ap instant_of (to_z-of_z w64 z f)
 
   pub dated : i < unix_epoch + years_end → iso_text (date_of i) ≡ time_text z
   dated h = rw is (with_date z (rw is at h))

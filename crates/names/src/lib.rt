@@ -1,7 +1,7 @@
 // Times, regions, speeds and kinds by name, and the bytes of an MPDU, put into a lent buffer.
 ghost use Rattle.std.specs.Prelude.{◌≡◌, ◌+◌, ◌*◌, ◌≤◌, ◌<◌, min, length};
 ghost use Rattle.text.specs.Put.{Put};
-ghost use Rattle.names.specs.Names.{unix_instant, time_text, entry_in, region_index, region_text, speed_text, kind_text, bytes_text, mpdu_text};
+ghost use Rattle.names.specs.Names.{instant_of, time_text, entry_in, region_index, region_text, speed_text, kind_text, bytes_text, mpdu_text};
 
 use layout::ZNIFFER;
 
@@ -10,16 +10,16 @@ const YEARS_END: u64 = 315_537_897_600_000;
 
 // The instant of a time, given in milliseconds since the Unix epoch: the end of the year 9999 where it is before the year 1.
 fn instant(millis: i64) -> u64
-    ensures { result ≡ unix_instant millis }
+    ensures { result ≡ instant_of millis }
 {
     let size = text::magnitude(millis);
     if millis < 0 {
-        if size <= timestamps::UNIX_EPOCH {
-            return timestamps::UNIX_EPOCH - size;
+        if size <= written::UNIX_EPOCH {
+            return written::UNIX_EPOCH - size;
         }
         return YEARS_END;
     }
-    timestamps::UNIX_EPOCH + size
+    written::UNIX_EPOCH + size
 }
 
 // Puts a time, given in milliseconds since the Unix epoch: as ISO 8601 in UTC, or as those milliseconds where four digits do not write
@@ -29,7 +29,7 @@ pub fn put_time(out: &mut [u8], at: usize, millis: i64) -> usize
 {
     let i = instant(millis);
     if i < YEARS_END {
-        let iso = timestamps::iso(calendar::date_of(i));
+        let iso = written::iso(calendar::date_of(i));
         return text::put_text(out, at, &iso);
     }
     text::put_signed(out, at, millis)

@@ -6,7 +6,7 @@ use lib.ListN.{length}
 use mathlib.Core.List.{List}
 use mathlib.Core.Option.{Option, none, some}
 use mathlib.Core.Path.{◌≡◌, refl}
-use Rattle.lemmas.proofs.Choice.{by_choice}
+use Rattle.choice.proofs.Choice.{by_choice}
 use Rattle.layout.specs.Layout.{trace_limit}
 use Rattle.resync.specs.Boundary.{boundary}
 use Rattle.resync.specs.Search.{SearchTold, first_from, start_of, window_of, judged_of, searched, default_window}

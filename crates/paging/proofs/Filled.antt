@@ -8,24 +8,24 @@ use mathlib.Core.List.{List, [], ◌∷◌, ◌++◌, append_assoc}
 use mathlib.Core.Option.{Option, none, some}
 use mathlib.Core.Path.{◌≡◌, refl, sym, ap, ◌∙◌}
 use native.Mathlib.Omega.{arith}
-use Rattle.lemmas.proofs.Choice.{either}
+use Rattle.choice.proofs.Choice.{either}
 use Rattle.layout.specs.Layout.{trace_limit}
-use Rattle.layout.specs.Fields.{kind_at, outgoing_at, payload_at}
+use Rattle.layout.specs.Fields.{kind_at, outgoing_at}
 use Rattle.record.proofs.Steps.{Steps}
 use Rattle.record.proofs.Valid.{record_steps}
 use Rattle.record.specs.Record.{Limits, next_at}
 use Rattle.rows.proofs.Walk.{one_more_lem}
-use Rattle.rows.specs.Frames.{Placed, first_frame}
-use Rattle.rows.specs.Rows.{frames_at, numbered, rows_at, gap_of}
+use Rattle.rows.specs.Frames.{Placed, first_of}
+use Rattle.rows.specs.Rows.{payload_at, frames_at, numbered, rows_at}
 use Rattle.rows.specs.declared.Row.{Row}
-use Rattle.record.specs.Walk.{walk}
+use Rattle.seam.specs.Walk.{walk}
 use Rattle.paging.specs.Page.{with_gap, gapped, Taken, taken}
-use Rattle.row_steps.specs.Step.{Sound, before_of, start_place, moved_to, RowStepTold, row_step, step_from, step_on, row_step_of, rows_of}
-use Rattle.row_steps.specs.declared.Place.{Place}
+use Rattle.steps.specs.Step.{Sound, gap_of, before_of, start_place, moved_to, StepTold, row_step, step_from, step_on, step_of, rows_of}
+use Rattle.steps.specs.declared.Place.{Place}
 use Rattle.paging.proofs.Pages.{taken_stops, taken_on, length_gapped}
-use Rattle.row_steps.proofs.Stepping.{step_on_lem, one_within, sound_start, sound_next}
-use Rattle.record.proofs.Headers.{time_is}
-use Rattle.record.proofs.Walks.{stopped, goes_on_lem, by_records}
+use Rattle.steps.proofs.Stepping.{step_on_lem, one_within, sound_start, sound_next}
+use Rattle.steps.proofs.Tests.{time_is}
+use Rattle.seam.proofs.Walks.{stopped, goes_on_lem, by_records}
 
 -- the first rows of some, with their gaps
 front : (before : Option ℤ) (xs ys : List Row) → take (length xs) (gapped before (xs ++ ys)) ≡ gapped before xs
@@ -67,7 +67,7 @@ module _ (limits : Limits) (kinds s : List ℕ) (low : 630822816000000000 ≤ li
   rows_left p = gapped (before_of p.has_previous p.previous) (left p.offset p.index p.position)
 
   -- a step gives the first of the rows that are left, and leaves the others
-  Heads : List Row → RowStepTold → Type 0
+  Heads : List Row → StepTold → Type 0
   Heads [] r = Unit
   Heads (x ∷ xs) r = (r.row ≡ x) × (rows_left r.next ≡ xs)
 
@@ -83,11 +83,11 @@ module _ (limits : Limits) (kinds s : List ℕ) (low : 630822816000000000 ≤ li
     good_stop at e index position = rw (left_stops at index position e) tt
 
     good_frames : (at m index position : ℕ) → next at ≡ some m → Good m → (fs : List Placed) → frames_at kinds s at index ≡ fs
-        → Heads (gapped b (numbered s at position fs ++ left m 0 0)) (row_step s (moved_to p at index position) (first_frame fs) (step_from limits kinds s p m 0 0))
+        → Heads (gapped b (numbered s at position fs ++ left m 0 0)) (row_step s (moved_to p at index position) (first_of fs) (step_from limits kinds s p m 0 0))
     unfolding Heads gapped numbered rows_left
     good_frames at m index position e ih [] is = ih 0 0
     good_frames at m index position e ih (f ∷ fs) is =
-        let o = one_more_lem (kind_at kinds s at) (outgoing_at s at) (payload_at s at) index f.frame f.next (ap first_frame (sym is)) in
+        let o = one_more_lem (kind_at kinds s at) (outgoing_at s at) (payload_at s at) index f.frame f.next (ap first_of (sym is)) in
         let after : frames_at kinds s at f.next ≡ fs = let whole : f ∷ frames_at kinds s at f.next ≡ f ∷ fs = sym o.0 ∙ is in cc in
         (refl, rw (time_is limits kinds s low high at m e) (rw (left_on at m f.next (position + 1) e) (rw after)))
 
@@ -99,16 +99,16 @@ module _ (limits : Limits) (kinds s : List ℕ) (low : 630822816000000000 ≤ li
     good = by_records next (length s) steps Good good_stop good_step
 
   module _ (fits : length s ≤ trace_limit) where
-    heads : (p : Place) → Sound p → Heads (rows_left p) (row_step_of limits kinds s p)
+    heads : (p : Place) → Sound p → Heads (rows_left p) (step_of limits kinds s p)
     unfolding rows_left step_on
     heads p sound = rw (sym (one_within limits kinds s p fits sound)) (good p p.offset p.index p.position)
 
-    steps_by : (n : ℕ) (p : Place) → Sound p → ((q : Place) → Sound q → n ≤ length (rows_left q) → rows_of limits kinds s q n ≡ take n (rows_left q)) → (xs : List Row) → Heads xs (row_step_of limits kinds s p)
-        → suc n ≤ length xs → (row_step_of limits kinds s p).row ∷ rows_of limits kinds s (row_step_of limits kinds s p).next n ≡ take (suc n) xs
+    steps_by : (n : ℕ) (p : Place) → Sound p → ((q : Place) → Sound q → n ≤ length (rows_left q) → rows_of limits kinds s q n ≡ take n (rows_left q)) → (xs : List Row) → Heads xs (step_of limits kinds s p)
+        → suc n ≤ length xs → (step_of limits kinds s p).row ∷ rows_of limits kinds s (step_of limits kinds s p).next n ≡ take (suc n) xs
     unfolding Heads
     steps_by n p sound ih [] h l = absurd (omega arith)
     steps_by n p sound ih (x ∷ xs) h l =
-        rw h.0 (ap (λ (r : List Row). x ∷ r) (ih (row_step_of limits kinds s p).next (sound_next limits low high kinds s p sound) (rw h.1 (omega arith)) ∙ rw h.1))
+        rw h.0 (ap (λ (r : List Row). x ∷ r) (ih (step_of limits kinds s p).next (sound_next limits low high kinds s p sound) (rw h.1 (omega arith)) ∙ rw h.1))
 
     steps_rows : (n : ℕ) (p : Place) → Sound p → n ≤ length (rows_left p) → rows_of limits kinds s p n ≡ take n (rows_left p)
     unfolding rows_of

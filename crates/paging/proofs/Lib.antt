@@ -5,4 +5,3 @@ pub mod Planning
 pub mod Only
 pub mod Sizes
 pub mod Answers
-pub mod Refusals

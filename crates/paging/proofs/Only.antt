@@ -5,9 +5,9 @@ use lib.Dec.{eqb}
 use mathlib.Core.Bool.{cond}
 use mathlib.Core.List.{List}
 use mathlib.Core.Path.{◌≡◌, refl, sym, ◌∙◌}
-use Rattle.lemmas.proofs.Only.{only}
+use Rattle.choice.proofs.Only.{only}
 use Rattle.record.specs.Record.{Limits}
-use Rattle.row_steps.specs.declared.Place.{Place}
+use Rattle.steps.specs.declared.Place.{Place}
 use Rattle.paging.specs.Page.{PageTold, PageGiven, told_page}
 use Rattle.paging.specs.Plan.{Planned}
 use Rattle.paging.specs.declared.Page.{Page}

@@ -9,7 +9,7 @@ use mathlib.Core.List.{List}
 use mathlib.Core.Option.{Option, none, some}
 use mathlib.Core.Path.{◌≡◌, refl, sym, ap, ◌∙◌}
 use native.Mathlib.Omega.{arith}
-use Rattle.lemmas.proofs.Choice.{by_choice}
+use Rattle.choice.proofs.Choice.{by_choice}
 use Rattle.layout.specs.Layout.{trace_limit, payload_part}
 use Rattle.layout.specs.Fields.{length_at}
 use Rattle.record.proofs.Steps.{Steps}
@@ -20,7 +20,7 @@ use Rattle.resync.specs.Boundary.{boundary}
 use Rattle.resync.specs.Search.{SearchTold, first_from, start_of, window_of, judged_of, searched, default_window}
 use Rattle.rows.specs.Rows.{rows_at}
 use Rattle.rows.specs.declared.Row.{Row}
-use Rattle.record.proofs.Walks.{by_records}
+use Rattle.seam.proofs.Walks.{by_records}
 use Rattle.paging.specs.Page.{gapped, Taken, none_taken, with_record, taken, PageTold, PageGiven, next_told, lent_to, with_none, page_refused, page_from, page_at}
 use Rattle.paging.proofs.Pages.{taken_stops, taken_on, length_gapped}
 use Rattle.paging.proofs.Counting.{rows_most, wanted_none}

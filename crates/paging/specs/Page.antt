@@ -1,11 +1,12 @@
 -- A page, over a record test, the rows of the record at a place, the trace's length n and the time before the page, if one is given.
-use Rattle.std.specs.Prelude.{ℕ, ◌-◌, ltb, eqb, ℤ, length, Bool, true, false, cond, List, [], ◌∷◌, ◌++◌}
-use Rattle.std.proofs.Math.Option.{Option, some}
-use Rattle.rows.specs.Rows.{rows_at, gap_of}
+use Rattle.std.specs.Prelude.{ℕ, zero, suc, ◌+◌, ◌-◌, ltb, eqb, ℤ, length, Bool, true, false, cond, List, [], ◌∷◌, ◌++◌}
+use Rattle.std.proofs.Math.Option.{Option, none, some}
+use Rattle.rows.specs.Rows.{rows_at}
 use Rattle.rows.specs.declared.Row.{Row}
 use Rattle.record.specs.Record.{Limits, next_at}
 use Rattle.resync.specs.Search.{SearchTold, searched, default_window}
-use Rattle.record.specs.Walk.{walk}
+use Rattle.seam.specs.Walk.{walk}
+use Rattle.steps.specs.Step.{gap_of}
 use Rattle.paging.specs.declared.Page.{Page}
 use Rattle.paging.specs.declared.Page.TheVariants.{More, Last, TraceTooLong, WindowTooLong, TableTooShort}
 
@@ -44,11 +45,11 @@ with_record rows t = record { rows = rows ++ t.rows; end = t.end }
 
 -- 01: "It takes whole records until it has at least `count` rows, a record is invalid, or the trace ends": the record at a place, where
 -- `count` rows are still wanted, and what is taken after it
-abbrev pub taken_with : (ℕ → List Row) → ℕ → (ℕ → Taken) → ℕ → Taken
-taken_with rows at rest count = cond (eqb count 0) (none_taken at) (with_record (rows at) (rest (count - length (rows at))))
+abbrev pub taken_at : (ℕ → List Row) → ℕ → (ℕ → Taken) → ℕ → Taken
+taken_at rows at rest count = cond (eqb count 0) (none_taken at) (with_record (rows at) (rest (count - length (rows at))))
 
 unfoldable pub taken : (ℕ → Option ℕ) → (ℕ → List Row) → ℕ → ℕ → ℕ → Taken
-taken next rows n at count = walk next (λ (end : ℕ) (wanted : ℕ). none_taken end) (taken_with rows) n at count
+taken next rows n at count = walk next (λ (end : ℕ) (wanted : ℕ). none_taken end) (taken_at rows) n at count
 
 -- what a page answers: the refusal's number or 0, the start, the number of rows, whether a next place is named, and that place
 pub record PageTold : Type 0 where

@@ -2,7 +2,7 @@
 use Rattle.std.specs.Prelude.{ℕ, ◌≤◌, length, List, ◌≡◌}
 use Rattle.record.specs.Record.{Limits}
 use Rattle.paging.specs.Page.{PageGiven, told_page}
-use Rattle.row_steps.specs.Step.{rows_of, start_place}
+use Rattle.steps.specs.Step.{rows_of, start_place}
 use Rattle.paging.specs.declared.Plan.{Plan}
 
 -- what a plan of a page says: the page's answer, that its rows are those from the page's start on, and how many, which the table has room for

@@ -1,17 +1,18 @@
 // A page planned, by value: its answer, and from which place how many rows are to be written. `cursor` writes them into a lent table.
-ghost use Rattle.std.specs.Prelude.{◌≡◌, ◌≤◌, length};
+ghost use Rattle.std.specs.Prelude.{◌≡◌, ◌+◌, ◌≤◌, length, take, drop};
 ghost use Rattle.record.specs.Record.{plausible, next_at};
 ghost use Rattle.std.proofs.Math.Option.{none};
-ghost use Rattle.layout.specs.Layout.{trace_limit, payload_of};
+ghost use Rattle.layout.specs.Layout.{trace_limit};
 ghost use Rattle.rows.specs.Frames.{frames_from};
 ghost use Rattle.rows.specs.Rows.{rows_at};
 ghost use Rattle.paging.specs.Page.{Taken, taken, lent_to, next_told, page_at, told_page};
-ghost use Rattle.row_steps.specs.Step.{start_place};
+ghost use Rattle.steps.specs.Step.{start_place};
 ghost use Rattle.paging.specs.Plan.{Planned};
 
+use layout::RECORD_HEADER;
 use record::{Record, RecordHeader};
 use resync::{DEFAULT_WINDOW, Search};
-use row_steps::Place;
+use steps::Place;
 
 // What a page answers: where it started, how many rows it wrote, and where the next one goes on.
 #[derive(Drop)]
@@ -28,25 +29,6 @@ pub enum Page {
     TraceTooLong,
     WindowTooLong,
     TableTooShort,
-}
-
-impl Page {
-    // 01's number of the refusal, 0 where it is none.
-    pub fn refusal(self) -> u32
-        ensures { result ≡ (told_page self).refusal }
-    {
-        match self {
-            Page::More {
-                start: _,
-                size: _,
-                next: _,
-            } => 0,
-            Page::Last { start: _, size: _ } => 0,
-            Page::TraceTooLong => 1,
-            Page::WindowTooLong => 5,
-            Page::TableTooShort => 7,
-        }
-    }
 }
 
 // The rows of the records that a page takes, and the end of the last.
@@ -66,9 +48,12 @@ pub struct Plan {
 
 // How many rows a record gives.
 fn rows_in(s: &[u8], at: usize, header: RecordHeader) -> usize
-    ensures { result ≡ length (frames_from header.kind header.is_outcome (payload_of header.payload_len s.now at) 0) }
+    requires { at + 14 + header.payload_len ≤ length s.now }
+    ensures { result ≡ length (frames_from header.kind header.is_outcome (take header.payload_len (drop (at + 13) s.now)) 0) }
 {
-    let payload = layout::payload(s, at, header.payload_len);
+    let first = at + RECORD_HEADER;
+    let end = first + header.payload_len;
+    let payload = &s[first..end];
     rows::frame_count(payload, header.kind, header.is_outcome)
 }
 

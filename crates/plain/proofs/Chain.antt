@@ -13,7 +13,7 @@ use Rattle.resync.proofs.Chain.{boundary_record}
 use Rattle.resync.proofs.Searched.{is_there}
 use Rattle.resync.specs.Boundary.{boundary}
 use Rattle.resync.specs.Search.{found, searched, default_window}
-use Rattle.record.proofs.Walks.{stopped, goes_on_lem}
+use Rattle.seam.proofs.Walks.{stopped, goes_on_lem}
 use Rattle.seam.specs.Seam.{Unbroken, ends, more}
 use Rattle.span.proofs.Meets.{met_at}
 use Rattle.span.specs.Met.{Trace, end_of, met_of, meet}

@@ -8,7 +8,7 @@ use native.Mathlib.Omega.{arith}
 use Rattle.record.specs.Record.{Limits}
 use Rattle.seek.proofs.Only.{only_seek, only_start, only_step}
 use Rattle.seek.specs.Seek.{seek_told, seek_of, told_seek}
-use Rattle.seek.specs.Step.{told_start, start_at, seek_done, seek_step_at, told_seek_step, Driven, ends, goes_on, scans}
+use Rattle.seek.specs.Step.{told_start, start_at, done, step_at, told_step, Driven, ends, goes_on, scans}
 use Rattle.seek.specs.declared.Found.{Found}
 use Rattle.seek.specs.declared.Found.TheVariants as Found
 use Rattle.seek.specs.declared.SeekState.{SeekState}
@@ -30,7 +30,7 @@ found_of : Option ℕ → Found
 found_of none = Found.Nothing
 found_of (some offset) = Found.At offset
 
-done_is : (o : Option ℕ) → seek_done o ≡ told_seek_step (Step.Done (found_of o))
+done_is : (o : Option ℕ) → done o ≡ told_step (Step.Done (found_of o))
 unfolding found_of
 done_is none = refl
 done_is (some offset) = refl
@@ -45,7 +45,7 @@ unfolding found_of
 whole_is h none = refl
 whole_is h (some offset) = refl
 
-module _ (t : Trace) (target : ℤ) (step : SeekState → SeekStep) (keeps : (state : SeekState) → told_seek_step (step state) ≡ seek_step_at t target state) where
+module _ (t : Trace) (target : ℤ) (step : SeekState → SeekStep) (keeps : (state : SeekState) → told_step (step state) ≡ step_at t target state) where
   -- a step that leads on leaves one turn less, and one that is done ends
   leads_on :
       (state next : SeekState) (found : Found) (enough : ℕ) → ((again : SeekState → Option Found) → on_step (step state) again ≡ again next)
@@ -96,7 +96,7 @@ pub codes_agree :
     → (plain : PlainSeek) → told_plain plain ≡ plain_of (trace_of limits kinds s) target
     → (whole : SeekTime) → told_seek whole ≡ seek_of (trace_of limits kinds s) target
     → (start : SeekStart) → told_start start ≡ start_at (trace_of limits kinds s)
-    → (step : SeekState → SeekStep) → ((state : SeekState) → told_seek_step (step state) ≡ seek_step_at (trace_of limits kinds s) target state)
+    → (step : SeekState → SeekStep) → ((state : SeekState) → told_step (step state) ≡ step_at (trace_of limits kinds s) target state)
     → SameAnswers plain whole start step
 codes_agree limits kinds s p target plain e whole f start g step h =
     answers_same (trace_of limits kinds s) target step h (same_in limits kinds s p target) plain whole start e f g

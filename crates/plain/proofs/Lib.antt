@@ -4,4 +4,3 @@ pub mod Exits
 pub mod Only
 pub mod Same
 pub mod Codes
-pub mod Refusals

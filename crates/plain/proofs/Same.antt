@@ -1,6 +1,6 @@
 -- The whole seek and the stepped one answer what the plain one does: on 02's premises, and on weaker ones. The invariant of the halvings: records lead from the
 -- first one to lo, and the plain walk from lo answers what it answers from the first. Assumes nothing.
-use Prim.Native.Nat.{ℕ, zero, suc, ◌+◌, ◌-◌, ◌≤◌}
+use Prim.Native.Nat.{ℕ, zero, suc, ◌+◌, ◌-◌, ◌≤◌, ◌<◌}
 use borrow.Author.Tests.{le-ltb}
 use lib.Dec.{ltb}
 use lib.IntN.{ℤ}
@@ -11,7 +11,7 @@ use mathlib.Core.Logic.{◌↔◌}
 use mathlib.Core.Option.{Option, none, some}
 use mathlib.Core.Path.{◌≡◌, refl, sym, ap, subst, ◌∙◌}
 use native.Mathlib.Omega.{arith}
-use Rattle.lemmas.proofs.Choice.{right_true, by_choice}
+use Rattle.choice.proofs.Choice.{right_true, by_choice}
 use Rattle.layout.specs.Layout.{header_size, trace_limit}
 use Rattle.record.proofs.Steps.{Steps, past_end}
 use Rattle.record.proofs.Valid.{record_steps}

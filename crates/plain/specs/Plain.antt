@@ -4,7 +4,7 @@ use Rattle.std.specs.Int.Signed.{lt_z}
 use Rattle.std.proofs.Math.Option.{Option, none, some}
 use Rattle.layout.specs.Layout.{trace_limit}
 use Rattle.seam.specs.Seam.{Unbroken}
-use Rattle.record.specs.Walk.{walk}
+use Rattle.seam.specs.Walk.{walk}
 use Rattle.span.specs.Met.{Trace, first_met}
 use Rattle.plain.specs.declared.PlainSeek.{PlainSeek}
 use Rattle.plain.specs.declared.PlainSeek.TheVariants as Plain

@@ -1,6 +1,6 @@
 -- A first record is needed for the stepped seek: of a trace, byte by byte, whose records all lie past the first window, the plain seek and the whole one find
 -- none, and the stepped one finds one. From the first boundary on the other premises hold. Assumes nothing.
-use Prim.Native.Nat.{ℕ, ◌≤◌, ◌<◌}
+use Prim.Native.Nat.{ℕ, ◌+◌, ◌≤◌, ◌<◌}
 use borrow.Author.Tests.{le-ltb}
 use lib.IntN.{ℤ, pos}
 use lib.ListN.{length}
@@ -24,7 +24,7 @@ use Rattle.seek.proofs.Agree.{search_driven}
 use Rattle.seek.proofs.Halvings as Halvings
 use Rattle.seek.proofs.Laws.{without_first}
 use Rattle.seek.proofs.Walks as Walks
-use Rattle.seek.specs.Seek.{middle, next_lo, next_hi, Bracket, halved_none, halved_once, narrowed, walked}
+use Rattle.seek.specs.Seek.{middle, next_lo, next_hi, Bracket, halved_none, counted, narrowed, walked}
 use Rattle.seek.specs.Step.{Driven}
 use Rattle.seek.specs.declared.SeekState.TheVariants.{Searching}
 use Rattle.span.proofs.Meets.{Meets, meets, MetAt, met_at_lem, met_at}
@@ -87,11 +87,11 @@ module _
       met_next t steps fits (middle 2048 n) 1050624 1050639 (omega arith) (omega arith) (omega arith)
       (λ j l h. near_by j h (boundary t.next n j) refl) (is_boundary t.next n steps (more one second_on)) one
 
-  halved : narrowed (meet t) target n 2048 n ≡ halved_once (halved_none 1050639 n)
+  halved : narrowed (meet t) target n 2048 n ≡ counted (halved_none 1050639 n)
   halved =
       Halvings.one_halving (meet t) n ms target n 2048 n (omega arith) (omega arith)
-      ∙ ap (λ (m : MetTold). halved_once (narrowed (meet t) target n (next_lo target 2048 m) (next_hi target (middle 2048 n) n m))) (sym middle_is)
-      ∙ simp early (ap halved_once (Halvings.short (meet t) n ms target n 1050639 n (omega arith)))
+      ∙ ap (λ (m : MetTold). counted (narrowed (meet t) target n (next_lo target 2048 m) (next_hi target (middle 2048 n) n m))) (sym middle_is)
+      ∙ simp early (ap counted (Halvings.short (meet t) n ms target n 1050639 n (omega arith)))
 
   second_found : walked (meet t) n target n 1050639 ≡ some 1050639
   second_found =

@@ -13,7 +13,7 @@ use Rattle.seam.proofs.Boundaries.{is_boundary}
 use Rattle.seam.specs.Seam.{Unbroken, ends, more}
 use Rattle.seek.proofs.Halvings as Halvings
 use Rattle.seek.proofs.Walks as Walks
-use Rattle.seek.specs.Seek.{middle, next_lo, next_hi, halved_none, halved_once, narrowed}
+use Rattle.seek.specs.Seek.{middle, next_lo, next_hi, halved_none, counted, narrowed}
 use Rattle.span.proofs.Meets.{Meets, meets, met_at}
 use Rattle.span.specs.Met.{Trace, MetTold, meet, first_met}
 use Rattle.plain.proofs.Chain.{met_here, plain_found}
@@ -52,14 +52,14 @@ module _
       let mid : 42063 ≡ middle 2048 t.size = omega arith in
       met_here t steps fits 42063 82078 (omega arith) (is_boundary t.next t.size steps to_the_end) two ∙ ap (meet t) mid
 
-  halved : narrowed (meet t) target t.size 2048 t.size ≡ halved_once (halved_none 82078 t.size)
+  halved : narrowed (meet t) target t.size 2048 t.size ≡ counted (halved_none 82078 t.size)
   halved =
       Halvings.one_halving (meet t) t.size ms target t.size 2048 t.size (omega arith) (omega arith)
-      ∙ ap (λ (m : MetTold). halved_once (narrowed (meet t) target t.size (next_lo target 2048 m) (next_hi target (middle 2048 t.size) t.size m))) (sym middle_is)
-      ∙ simp early (ap halved_once (Halvings.short (meet t) t.size ms target t.size 82078 t.size (omega arith)))
+      ∙ ap (λ (m : MetTold). counted (narrowed (meet t) target t.size (next_lo target 2048 m) (next_hi target (middle 2048 t.size) t.size m))) (sym middle_is)
+      ∙ simp early (ap counted (Halvings.short (meet t) t.size ms target t.size 82078 t.size (omega arith)))
 
   pub halved_differs : Differ t target 2048 1
   halved_differs =
-      differ_by t target 2048 1 fits has_first place (plain_found t steps target 2048 end one late) (halved_once (halved_none 82078 t.size))
+      differ_by t target 2048 1 fits has_first place (plain_found t steps target 2048 end one late) (counted (halved_none 82078 t.size))
       (ap (λ (at : ℕ). narrowed (meet t) target t.size at t.size) place ∙ halved) refl
       (Walks.at_end (meet t) t.size ms target t.size 82078 (omega arith))

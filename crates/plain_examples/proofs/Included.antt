@@ -18,7 +18,7 @@ use Rattle.resync.specs.Search.{default_window}
 use Rattle.seam.proofs.Boundaries.{is_boundary}
 use Rattle.seam.specs.Seam.{Unbroken, ends, more}
 use Rattle.seek.proofs.Halvings as Halvings
-use Rattle.seek.specs.Seek.{middle, next_lo, next_hi, Bracket, halved_none, halved_once, narrowed, bracket}
+use Rattle.seek.specs.Seek.{middle, next_lo, next_hi, Bracket, halved_none, counted, narrowed, bracket}
 use Rattle.span.proofs.Meets.{Meets, meets, met_at}
 use Rattle.span.specs.Met.{Trace, MetTold, trace_of, meet, first_met}
 use Rattle.plain.proofs.Chain.{met_next, met_here}
@@ -93,21 +93,21 @@ module _
         (between (middle 2048 (middle 2048 n)) 1050638 (λ at l h a. of_three at 2048 1050638 2099228 a (λ e. omega arith) (λ e. omega arith) (λ e. omega arith)))
         (is_boundary t.next n steps (more two third_on)) two
 
-    second_halving : narrowed (meet t) target n 2048 (middle 2048 n) ≡ halved_once (halved_none 2099228 (middle 2048 n))
+    second_halving : narrowed (meet t) target n 2048 (middle 2048 n) ≡ counted (halved_none 2099228 (middle 2048 n))
     second_halving =
         Halvings.one_halving (meet t) n ms target n 2048 (middle 2048 n) (omega arith) (omega arith)
-        ∙ ap (λ (m : MetTold). halved_once (narrowed (meet t) target n (next_lo target 2048 m) (next_hi target (middle 2048 (middle 2048 n)) (middle 2048 n) m))) (sym second_middle)
-        ∙ simp early (ap halved_once (Halvings.short (meet t) n ms target n 2099228 (middle 2048 n) (omega arith)))
+        ∙ ap (λ (m : MetTold). counted (narrowed (meet t) target n (next_lo target 2048 m) (next_hi target (middle 2048 (middle 2048 n)) (middle 2048 n) m))) (sym second_middle)
+        ∙ simp early (ap counted (Halvings.short (meet t) n ms target n 2099228 (middle 2048 n) (omega arith)))
 
-    halved : narrowed (meet t) target n 2048 n ≡ halved_once (halved_once (halved_none 2099228 (middle 2048 n)))
+    halved : narrowed (meet t) target n 2048 n ≡ counted (counted (halved_none 2099228 (middle 2048 n)))
     halved =
         Halvings.one_halving (meet t) n ms target n 2048 n (omega arith) (omega arith)
-        ∙ ap (λ (m : MetTold). halved_once (narrowed (meet t) target n (next_lo target 2048 m) (next_hi target (middle 2048 n) n m))) (sym first_middle)
-        ∙ simp late (ap halved_once second_halving)
+        ∙ ap (λ (m : MetTold). counted (narrowed (meet t) target n (next_lo target 2048 m) (next_hi target (middle 2048 n) n m))) (sym first_middle)
+        ∙ simp late (ap counted second_halving)
 
     pub crossed : (bracket t target).hi < (bracket t target).lo
     crossed =
-        let is : bracket t target ≡ halved_once (halved_once (halved_none 2099228 (middle 2048 n))) = ap (λ (at : ℕ). narrowed (meet t) target n at n) place ∙ halved in
+        let is : bracket t target ≡ counted (counted (halved_none 2099228 (middle 2048 n))) = ap (λ (at : ℕ). narrowed (meet t) target n at n) place ∙ halved in
         subst (λ (b : Bracket). b.hi < b.lo) (sym is) (omega arith)
 
 module _ (kinds : List ℕ) (known : kind_of kinds 0xFE ≡ 3) where

@@ -9,7 +9,7 @@ use mathlib.Core.List.{List, [], ◌∷◌, ◌++◌, append_assoc, Memᴰ}
 use mathlib.Core.Option.{some}
 use mathlib.Core.Path.{◌≡◌, refl, sym, ap, ◌∙◌}
 use native.Mathlib.Omega.{arith}
-use Rattle.lemmas.proofs.Choice.{left_true, right_true}
+use Rattle.choice.proofs.Choice.{left_true, right_true}
 use Rattle.ticks.specs.Ticks.{cleared}
 use Rattle.layout.specs.Layout.{le_at, kind_of}
 use Rattle.layout.specs.Fields.{ticks_at, length_at, kind_at}

@@ -6,7 +6,7 @@ ghost use Rattle.std.specs.Prelude.{length, ◌≡◌};
 
 use libc::{STDERR_FILENO, STDOUT_FILENO};
 use plain::PlainSeek;
-use seek::{Found, SeekStart, SeekStep, SeekTime};
+use seek::{Found, SeekStart, SeekState, SeekStep, SeekTime};
 
 // A second after the traces' start, and two.
 const SECOND: i64 = 1_714_552_201_000;

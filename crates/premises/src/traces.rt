@@ -1,6 +1,6 @@
 // The example traces, put into a lent buffer: each function is proved to put exactly the bytes of its definition, of which the theorems are
 // (plain_examples/specs/Traces.antt). Each takes the place where the buffer's free part begins, and gives the place after what it put there.
-ghost use Rattle.std.specs.Prelude.{◌≡◌};
+ghost use Rattle.std.specs.Prelude.{◌≡◌, ◌<◌};
 ghost use Rattle.text.specs.Put.{Put};
 ghost use Rattle.plain_examples.specs.Traces.{zeros, low, header, second, head, blank, tail, falling, nested, distant, large};
 
@@ -11,7 +11,13 @@ const START: u64 = 5_250_187_508_427_387_904;
 fn second(n: u8) -> u64
     ensures { result ≡ second n }
 {
-    START + numbers::wide(n) as u64 * 10_000_000
+    START + wide(n) * 10_000_000
+}
+
+fn wide(n: u8) -> u64
+    ensures { (result ≡ n) × (result < 256) }
+{
+    n as u64
 }
 
 fn put_zeros(out: &mut [u8], at: usize, n: usize) -> usize

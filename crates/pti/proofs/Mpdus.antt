@@ -1,18 +1,18 @@
 -- A frame's MPDU lies inside its body. Assumes nothing.
-use Prim.Native.Nat.{ℕ, ◌+◌, ◌-◌, ◌<◌, ◌≤◌}
+use Prim.Native.Nat.{ℕ, ◌+◌, ◌-◌, ◌%◌, ◌<◌, ◌≤◌, min}
 use lib.Dec.{eqb, ltb, leb}
 use lib.ListN.{length, take, drop, get_or, length-drop}
 use lib.Seq.{length-take-le}
-use mathlib.Core.Bool.{Bool, true, false, ◌&&◌, cond}
+use mathlib.Core.Bool.{Bool, true, false, ◌&&◌, ◌||◌, cond}
 use mathlib.Core.List.{List}
-use mathlib.Core.Path.{◌≡◌, subst}
+use mathlib.Core.Path.{◌≡◌, refl, subst, ◌∙◌}
 use native.Mathlib.Omega.{arith}
 use borrow.Author.Tests.{leb-true, ltb-true}
 use Rattle.pti.specs.Frame.{tail_size, is_beam, mpdu_length, accepted, fields_of, parts_of, sided_of, tagged_of, frame_of}
 use Rattle.pti.specs.declared.PtiFrame.{PtiFrame}
 use Rattle.pti.specs.declared.Parsed.{Parsed}
 use Rattle.pti.specs.declared.Parsed.TheVariants.{Frame, Nothing}
-use Rattle.lemmas.proofs.Choice.{right_true, by_choice}
+use Rattle.choice.proofs.Choice.{right_true, by_choice}
 
 -- what a body of so many bytes may hold
 pub Holds : ℕ → Parsed → Type 0

@@ -1,7 +1,7 @@
 -- What is told of a body's frame determines it. Assumes nothing.
 use mathlib.Core.Bool.{cond}
 use mathlib.Core.Path.{◌≡◌, refl}
-use Rattle.lemmas.proofs.Only.{only}
+use Rattle.choice.proofs.Only.{only}
 use Rattle.pti.specs.Told.{ParsedTold, told_parsed}
 use Rattle.pti.specs.declared.PtiFrame.{PtiFrame}
 use Rattle.pti.specs.declared.Parsed.{Parsed}

@@ -1,7 +1,9 @@
 // PTI frames: pti/mod.rs.
 //
 // The body of a bracket record may hold one Z-Wave frame. Nothing is copied: a frame's MPDU is a place and a length in the body.
-ghost use Rattle.std.specs.Prelude.{◌≡◌, ◌+◌, ◌%◌, ◌≤◌, length};
+ghost use Rattle.std.specs.Prelude.{◌≡◌, ◌+◌, ◌%◌, ◌≤◌, ◌<◌, length};
+ghost use Rattle.std.specs.Int.{w8};
+ghost use Rattle.std.proofs.Common.{to_z};
 ghost use Rattle.pti.specs.Frame.{frame_of, tagged_of, sided_of, parts_of, fields_of, direction_of, tail_size, end_tag, rssi_size, rssi_of, beams_of, mpdu_length};
 
 use beam::BEAM_MARKER;
@@ -53,11 +55,27 @@ pub enum Parsed {
     Nothing,
 }
 
+fn wide(x: u8) -> usize
+    ensures { (result ≡ x) × (result < 256) }
+{
+    x as usize
+}
+
 // The low four bits: the Rust's REGION_MASK, CHANNEL_MASK and PROTOCOL_MASK are all 0x0F.
 fn low4(x: u8) -> u8
     ensures { result ≡ x % 16 }
 {
     x & 0x0F
+}
+
+// A byte read as signed.
+fn signed(x: u8) -> i8
+    ensures { result ≡ to_z w8 x }
+{
+    if x < 128 {
+        return x as i8;
+    }
+    !((255 - x) as i8)
 }
 
 // Decode one PTI record body into a Z-Wave frame.
@@ -179,7 +197,7 @@ fn rssi(tail: &[u8], sent: bool) -> i8
     if sent {
         return 0;
     }
-    numbers::signed(tail[1])
+    signed(tail[1])
 }
 
 // The repeats of a beam, 0 where the radio part is none.
@@ -208,7 +226,7 @@ fn mpdu_length(part: &[u8]) -> usize
     if packet_length <= LENGTH_INDEX_IN_HEADER {
         return packet_length;
     }
-    let len = numbers::wide(part[LENGTH_INDEX_IN_HEADER]);
+    let len = wide(part[LENGTH_INDEX_IN_HEADER]);
     if packet_length < len {
         return packet_length;
     }

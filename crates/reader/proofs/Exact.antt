@@ -6,12 +6,12 @@ use mathlib.Core.List.{List}
 use mathlib.Core.Path.{◌≡◌}
 use borrow.Author.Tests.{ltb-true, ltb-false, eqb-true, eqb-false, eq-eqb, ne_eqb}
 use Rattle.layout.specs.Layout.{header_size, trace_limit, properties_part, payload_part}
-use Rattle.layout.specs.Fields.{length_at, end_place, version_of}
+use Rattle.layout.specs.Fields.{length_at, end_place}
 use Rattle.reader.specs.declared.ZlfReader.{ZlfReader}
-use Rattle.reader.specs.Opening.{OpeningTold, sum_right, opened}
+use Rattle.reader.specs.Opening.{OpeningTold, sum_right, version_of, opened}
 use Rattle.reader.specs.Next.{NextTold, next_of}
 use Rattle.reader.specs.Exactly.{Opens, Steps}
-use Rattle.lemmas.proofs.Choice.{by_choice}
+use Rattle.choice.proofs.Choice.{by_choice}
 use Rattle.reader.proofs.Opens as opens
 use Rattle.reader.proofs.Exits as exits
 

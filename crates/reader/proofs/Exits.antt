@@ -9,19 +9,19 @@ use native.Mathlib.Omega.{arith}
 use Rattle.layout.specs.Layout.{trace_limit, properties_part, payload_part}
 use Rattle.layout.specs.Fields.{length_at, end_place}
 use Rattle.reader.specs.declared.ZlfReader.{ZlfReader}
-use Rattle.reader.specs.Next.{signed32, no_next, record_read, next_of}
+use Rattle.reader.specs.Next.{signed32, no_record, record_told, next_of}
 
 module _ (kinds s : List ℕ) (r : ZlfReader) where
-  pub too_long : trace_limit < length s → no_next 1 (pos 0) r ≡ next_of kinds s r
+  pub too_long : trace_limit < length s → no_record 1 (pos 0) r ≡ next_of kinds s r
   unfolding next_of
   too_long h = simp (lt-ltb trace_limit (length s) h)
 
   module _ (short : length s ≤ trace_limit) where
-    pub at_end : length s < r.place + properties_part → no_next 0 (pos 0) r ≡ next_of kinds s r
+    pub at_end : length s < r.place + properties_part → no_record 0 (pos 0) r ≡ next_of kinds s r
     unfolding next_of
     at_end h = simp (le-ltb trace_limit (length s) short, lt-ltb (length s) (r.place + properties_part) h)
 
-    pub in_head_lem : r.place + properties_part ≤ length s → length s < r.place + payload_part → no_next 9 (pos 0) r ≡ next_of kinds s r
+    pub in_head_lem : r.place + properties_part ≤ length s → length s < r.place + payload_part → no_record 9 (pos 0) r ≡ next_of kinds s r
     unfolding next_of
     in_head_lem g h =
         simp (
@@ -31,7 +31,7 @@ module _ (kinds s : List ℕ) (r : ZlfReader) where
         )
 
     module _ (headed : r.place + payload_part ≤ length s) where
-      pub negative : 2 ^ 31 ≤ length_at s r.place → no_next 8 (signed32 (length_at s r.place)) r ≡ next_of kinds s r
+      pub negative : 2 ^ 31 ≤ length_at s r.place → no_record 8 (signed32 (length_at s r.place)) r ≡ next_of kinds s r
       unfolding next_of
       negative h =
           simp (
@@ -42,7 +42,7 @@ module _ (kinds s : List ℕ) (r : ZlfReader) where
           )
 
       module _ (plain : length_at s r.place < 2 ^ 31) where
-        pub in_payload_lem : length s ≤ end_place s r.place → no_next 10 (pos 0) r ≡ next_of kinds s r
+        pub in_payload_lem : length s ≤ end_place s r.place → no_record 10 (pos 0) r ≡ next_of kinds s r
         unfolding next_of
         in_payload_lem h =
             simp (
@@ -53,7 +53,7 @@ module _ (kinds s : List ℕ) (r : ZlfReader) where
               le-ltb (end_place s r.place) (length s) h,
             )
 
-        pub whole : end_place s r.place < length s → record_read kinds s r ≡ next_of kinds s r
+        pub whole : end_place s r.place < length s → record_told kinds s r ≡ next_of kinds s r
         unfolding next_of
         whole h =
             simp (

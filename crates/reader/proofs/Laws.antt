@@ -7,10 +7,10 @@ use mathlib.Core.Path.{◌≡◌, refl, sym, ap, ◌∙◌}
 use native.Mathlib.Omega.{arith}
 use Rattle.reader.specs.declared.ZlfReader.{ZlfReader}
 use Rattle.reader.specs.Next.{NextTold, next_of}
-use Rattle.reader.specs.Whole.{reader_after, Read, read_some, read_all}
+use Rattle.reader.specs.Whole.{onward, Read, read_some, read_all}
 use Rattle.reader.specs.Whole.Read.{stops, goes}
 use Rattle.reader.specs.Exactly.{Steps}
-use Rattle.lemmas.proofs.Choice.{by_choice}
+use Rattle.choice.proofs.Choice.{by_choice}
 use Rattle.reader.proofs.Exact.{next_has}
 
 true_false {ℓ} : {X : Type ℓ} → true ≡ false → X
@@ -25,7 +25,7 @@ module _ (kinds s : List ℕ) (r : ZlfReader) where
   moves (Steps.negative a d h) f = true_false (sym f)
   moves (Steps.in_payload a d e h) f = true_false (sym f)
 
-  rests : {t : NextTold} → Steps kinds s r t → t.is_record ≡ false → reader_after t ≡ r
+  rests : {t : NextTold} → Steps kinds s r t → t.is_record ≡ false → onward t ≡ r
   rests (Steps.reads a d e h) f = true_false f
   rests (Steps.overlong h) f = refl
   rests (Steps.ended a h) f = refl
@@ -38,7 +38,7 @@ module _ (kinds s : List ℕ) (r : ZlfReader) where
   inside = moves (next_has kinds s r)
 
   -- after a refusal or the end the reader is as given
-  pub as_given : (next_of kinds s r).is_record ≡ false → reader_after (next_of kinds s r) ≡ r
+  pub as_given : (next_of kinds s r).is_record ≡ false → onward (next_of kinds s r) ≡ r
   as_given = rests (next_has kinds s r)
 
 module _ (kinds s : List ℕ) where
@@ -53,7 +53,7 @@ module _ (kinds s : List ℕ) where
   whole_by zero r h = stops (no_more r (omega arith) (next_of kinds s r).is_record refl)
   whole_by (suc n) r h =
       by_choice (Read kinds s r) (next_of kinds s r).is_record
-      (λ e. goes e (whole_by n (reader_after (next_of kinds s r)) (omega (arith, (inside kinds s r e).0, (inside kinds s r e).1))))
+      (λ e. goes e (whole_by n (onward (next_of kinds s r)) (omega (arith, (inside kinds s r e).0, (inside kinds s r e).1))))
       (λ e. stops e)
 
   -- a whole read ends, from any place

@@ -5,4 +5,3 @@ pub mod Opens
 pub mod Only
 pub mod Exact
 pub mod Laws
-pub mod Refusals

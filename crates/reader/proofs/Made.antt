@@ -10,7 +10,7 @@ use native.Mathlib.Omega.{arith}
 use Rattle.layout.specs.Layout.{kind_of, payload_part}
 use Rattle.layout.specs.Fields.{ticks_at, properties_at, length_at, session_at}
 use Rattle.reader.specs.declared.ZlfReader.{ZlfReader}
-use Rattle.reader.specs.Next.{counted, record_of, record_read}
+use Rattle.reader.specs.Next.{counted, record_of, record_told}
 
 -- a byte's bit 7 is 1 exactly from 128 on
 module _ (p : ℕ) (byte : p < 256) where
@@ -33,7 +33,7 @@ module _ (kinds s : List ℕ) (r : ZlfReader) (size : ℕ) (same : size ≡ leng
       (r.place + payload_part)
       size
       (record { place = r.place + payload_part + size + 1; count = counted r.count })
-      ≡ record_read kinds s r
+      ≡ record_told kinds s r
   made =
       let on : r.place + payload_part + length_at s r.place + 1 ≡ r.place + 14 + length_at s r.place = omega arith in
       rw (same, bit7 (properties_at s r.place) byte, on)

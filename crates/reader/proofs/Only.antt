@@ -2,14 +2,14 @@
 use lib.Dec.{eqb}
 use mathlib.Core.Bool.{cond}
 use mathlib.Core.Path.{◌≡◌, refl}
-use Rattle.lemmas.proofs.Only.{only}
+use Rattle.choice.proofs.Only.{only}
 use Rattle.reader.specs.declared.Opening.{Opening}
 use Rattle.reader.specs.declared.Opening.TheVariants as O
 use Rattle.reader.specs.declared.Next.{Next}
 use Rattle.reader.specs.declared.Next.TheVariants as N
 use Rattle.reader.specs.Opening.{OpeningTold, told_opening}
 use Rattle.reader.specs.Next.{NextTold, told_next}
-use Rattle.reader.specs.Whole.{reader_after}
+use Rattle.reader.specs.Whole.{onward}
 
 opening_of : OpeningTold → Opening
 opening_of t =
@@ -43,11 +43,11 @@ next_of t =
       payload_offset = t.payload;
       payload_len = t.size;
     })
-    (reader_after t))
-    (cond (eqb t.refusal 0) (N.End (reader_after t))
-    (cond (eqb t.refusal 1) (N.TraceTooLong (reader_after t))
-    (cond (eqb t.refusal 8) (N.InvalidPayloadLength t.negative (reader_after t))
-    (cond (eqb t.refusal 9) (N.EofInHead (reader_after t)) (N.EofInPayload (reader_after t))))))
+    (onward t))
+    (cond (eqb t.refusal 0) (N.End (onward t))
+    (cond (eqb t.refusal 1) (N.TraceTooLong (onward t))
+    (cond (eqb t.refusal 8) (N.InvalidPayloadLength t.negative (onward t))
+    (cond (eqb t.refusal 9) (N.EofInHead (onward t)) (N.EofInPayload (onward t))))))
 
 next_again : (a : Next) → next_of (told_next a) ≡ a
 unfolding next_of

@@ -6,8 +6,7 @@ use mathlib.Core.List.{List}
 use mathlib.Core.Path.{◌≡◌}
 use borrow.Author.Tests.{lt-ltb, le-ltb, eq-eqb, ne_eqb}
 use Rattle.layout.specs.Layout.{header_size, trace_limit}
-use Rattle.reader.specs.Opening.{sum_right, opening_told, opened}
-use Rattle.layout.specs.Fields.{version_of}
+use Rattle.reader.specs.Opening.{sum_right, version_of, opening_told, opened}
 
 module _ (s : List ℕ) (expected : ℕ) where
   pub too_long : trace_limit < length s → opening_told 1 0 0 0 ≡ opened s expected

@@ -1,11 +1,11 @@
 -- When each answer is given, case by case: the plain statement of what `opened` and `next_of` compute.
 use Rattle.std.specs.Prelude.{ℕ, ◌+◌, ◌≤◌, ◌<◌, ◌^◌, pos, length, take, List, ◌≡◌}
-use Rattle.layout.specs.Layout.{le_at, header_size, trace_limit, properties_part, payload_part, sum_part}
-use Rattle.layout.specs.Fields.{length_at, end_place, version_of}
+use Rattle.layout.specs.Layout.{le_at, header_size, trace_limit, properties_part, payload_part}
+use Rattle.layout.specs.Fields.{length_at, end_place}
 use Rattle.reader.specs.declared.ZlfReader.{ZlfReader}
 use Rattle.checksum.specs.Sum.{sum_of}
-use Rattle.reader.specs.Opening.{OpeningTold, opening_told}
-use Rattle.reader.specs.Next.{NextTold, signed32, no_next, record_read}
+use Rattle.reader.specs.Opening.{OpeningTold, opening_told, sum_part, version_of}
+use Rattle.reader.specs.Next.{NextTold, signed32, no_record, record_told}
 
 pub data Opens (s : List ℕ) (expected : ℕ) : OpeningTold → Type 0 where
   -- 1: "the trace is over 1,073,741,824 bytes"
@@ -24,18 +24,18 @@ pub data Opens (s : List ℕ) (expected : ℕ) : OpeningTold → Type 0 where
 
 pub data Steps (kinds s : List ℕ) (r : ZlfReader) : NextTold → Type 0 where
   -- 1: "the trace is over 1,073,741,824 bytes"
-  overlong : trace_limit < length s → Steps kinds s r (no_next 1 (pos 0) r)
+  overlong : trace_limit < length s → Steps kinds s r (no_record 1 (pos 0) r)
   -- "fewer than 8 bytes left is a plain end"
-  ended : length s ≤ trace_limit → length s < r.place + properties_part → Steps kinds s r (no_next 0 (pos 0) r)
+  ended : length s ≤ trace_limit → length s < r.place + properties_part → Steps kinds s r (no_record 0 (pos 0) r)
   -- 9: "the trace ends in properties or length"
   in_head : length s ≤ trace_limit → r.place + properties_part ≤ length s → length s < r.place + payload_part
-      → Steps kinds s r (no_next 9 (pos 0) r)
+      → Steps kinds s r (no_record 9 (pos 0) r)
   -- 8: "negative length (returned)"
   negative : length s ≤ trace_limit → r.place + payload_part ≤ length s → 2 ^ 31 ≤ length_at s r.place
-      → Steps kinds s r (no_next 8 (signed32 (length_at s r.place)) r)
+      → Steps kinds s r (no_record 8 (signed32 (length_at s r.place)) r)
   -- 10: "it ends in payload or end byte"
   in_payload : length s ≤ trace_limit → r.place + payload_part ≤ length s → length_at s r.place < 2 ^ 31 → length s ≤ end_place s r.place
-      → Steps kinds s r (no_next 10 (pos 0) r)
+      → Steps kinds s r (no_record 10 (pos 0) r)
   -- a record, of any length from 0 on and of any kind
   reads : length s ≤ trace_limit → r.place + payload_part ≤ length s → length_at s r.place < 2 ^ 31 → end_place s r.place < length s
-      → Steps kinds s r (record_read kinds s r)
+      → Steps kinds s r (record_told kinds s r)

@@ -33,8 +33,8 @@ pub record NextTold : Type 0 where
   pub count : ℕ
 
 -- 01: "After a refusal or the end both are as given"
-abbrev pub no_next : ℕ → ℤ → ZlfReader → NextTold
-no_next n z r =
+abbrev pub no_record : ℕ → ℤ → ZlfReader → NextTold
+no_record n z r =
     record {
       refusal = n;
       is_record = false;
@@ -75,8 +75,8 @@ abbrev pub moved_on : List ℕ → ZlfReader → ZlfReader
 moved_on s r = record { place = next_place s r.place; count = counted r.count }
 
 -- 01: "It answers place, stored ticks, bit 7, session, end byte, kind, payload place and length"
-abbrev pub record_read : List ℕ → List ℕ → ZlfReader → NextTold
-record_read kinds s r =
+abbrev pub record_told : List ℕ → List ℕ → ZlfReader → NextTold
+record_told kinds s r =
     record_of
     r.place
     (ticks_at s r.place)
@@ -93,19 +93,19 @@ record_read kinds s r =
 -- a length only where 9 is not given, so 8 and 9 never meet.
 unfoldable pub next_of : List ℕ → List ℕ → ZlfReader → NextTold
 next_of kinds s r =
-    cond (ltb trace_limit (length s)) (no_next 1 (pos 0) r)
-    (cond (ltb (length s) (r.place + properties_part)) (no_next 0 (pos 0) r)
-    (cond (ltb (length s) (r.place + payload_part)) (no_next 9 (pos 0) r)
+    cond (ltb trace_limit (length s)) (no_record 1 (pos 0) r)
+    (cond (ltb (length s) (r.place + properties_part)) (no_record 0 (pos 0) r)
+    (cond (ltb (length s) (r.place + payload_part)) (no_record 9 (pos 0) r)
     (cond (ltb (length_at s r.place) (2 ^ 31))
-    (cond (ltb (end_place s r.place) (length s)) (record_read kinds s r) (no_next 10 (pos 0) r))
-    (no_next 8 (signed32 (length_at s r.place)) r))))
+    (cond (ltb (end_place s r.place) (length s)) (record_told kinds s r) (no_record 10 (pos 0) r))
+    (no_record 8 (signed32 (length_at s r.place)) r))))
 
 -- each answer in the paper's numbers
 abbrev pub told_next : Next → NextTold
 told_next (Record h r) =
     record_of h.offset h.raw_ticks h.is_outcome h.session_id h.end h.kind h.payload_offset h.payload_len r
-told_next (End r) = no_next 0 (pos 0) r
-told_next (TraceTooLong r) = no_next 1 (pos 0) r
-told_next (InvalidPayloadLength z r) = no_next 8 z r
-told_next (EofInHead r) = no_next 9 (pos 0) r
-told_next (EofInPayload r) = no_next 10 (pos 0) r
+told_next (End r) = no_record 0 (pos 0) r
+told_next (TraceTooLong r) = no_record 1 (pos 0) r
+told_next (InvalidPayloadLength z r) = no_record 8 z r
+told_next (EofInHead r) = no_record 9 (pos 0) r
+told_next (EofInPayload r) = no_record 10 (pos 0) r

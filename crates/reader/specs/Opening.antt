@@ -1,14 +1,20 @@
 -- Opening a trace in sequence: the refusals in their order, and what an opened trace gives.
 use Rattle.std.specs.Prelude.{ℕ, ltb, eqb, length, take, Bool, cond, List}
-use Rattle.layout.specs.Layout.{le_at, header_size, trace_limit, sum_part}
-use Rattle.layout.specs.Fields.{version_of}
+use Rattle.layout.specs.Layout.{le_at, header_size, trace_limit}
 use Rattle.checksum.specs.Sum.{sum_of}
 use Rattle.reader.specs.declared.Opening.{Opening}
 use Rattle.reader.specs.declared.Opening.TheVariants.{Opened, TraceTooLong, TraceTooShort, InvalidHeaderChecksum, InvalidZlfVersion}
 
--- 01: "checks the header sum": whether the one stored is that of the bytes before it
+-- 01: "over bytes 0 to 2,045, stored low byte first at 2,046"
+abbrev pub sum_part : ℕ
+sum_part = 2046
+
 abbrev pub sum_right : List ℕ → Bool
 sum_right s = eqb (sum_of (take sum_part s)) (le_at 2 s sum_part)
+
+-- 01: "then the version (first four bytes)"
+abbrev pub version_of : List ℕ → ℕ
+version_of s = le_at 4 s 0
 
 -- what opening answers: the refusal's number or 0, the version found, and the reader's place and count; what is not said is 0
 pub record OpeningTold : Type 0 where

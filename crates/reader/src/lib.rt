@@ -3,9 +3,12 @@ ghost use Rattle.std.specs.Prelude.{◌≡◌, ◌≤◌, ◌<◌, ◌^◌, leng
 ghost use Rattle.layout.specs.Layout.{header_size, trace_limit};
 ghost use Rattle.layout.specs.Fields.{length_at, end_place};
 ghost use Rattle.reader.specs.Opening.{opened, told_opening, sum_right};
-ghost use Rattle.reader.specs.Next.{signed32, counted, record_read, next_of, told_next};
+ghost use Rattle.reader.specs.Next.{signed32, counted, record_told, next_of, told_next};
 
-use layout::{HEADER_CRC_OFFSET, LENGTH, PROPERTIES, RECORD_HEADER, TRACE_LIMIT, ZLF_HEADER_SIZE};
+use layout::{LENGTH, PROPERTIES, RECORD_HEADER, TRACE_LIMIT, ZLF_HEADER_SIZE};
+
+// Offset of the header's sum within the header.
+pub const HEADER_CRC_OFFSET: usize = 2046;
 
 // A length from here on is a negative one.
 const NEGATIVE: u32 = 0x8000_0000;
@@ -66,46 +69,6 @@ pub enum Next {
     },
 }
 
-impl Opening {
-    // 01's number of the refusal, 0 where it is none.
-    pub fn refusal(self) -> u32
-        ensures { result ≡ (told_opening self).refusal }
-    {
-        match self {
-            Opening::Opened {
-                version: _,
-                reader: _,
-            } => 0,
-            Opening::TraceTooLong => 1,
-            Opening::TraceTooShort => 2,
-            Opening::InvalidHeaderChecksum => 3,
-            Opening::InvalidZlfVersion { version: _ } => 4,
-        }
-    }
-}
-
-impl Next {
-    // 01's number of the refusal, 0 where it is none.
-    pub fn refusal(self) -> u32
-        ensures { result ≡ (told_next self).refusal }
-    {
-        match self {
-            Next::Record {
-                header: _,
-                reader: _,
-            } => 0,
-            Next::End { reader: _ } => 0,
-            Next::TraceTooLong { reader: _ } => 1,
-            Next::InvalidPayloadLength {
-                length: _,
-                reader: _,
-            } => 8,
-            Next::EofInHead { reader: _ } => 9,
-            Next::EofInPayload { reader: _ } => 10,
-        }
-    }
-}
-
 // Whether the header's sum is the stored one.
 fn sum_right(s: &[u8]) -> bool
     requires { header_size ≤ length s.now }
@@ -133,7 +96,7 @@ fn raised(count: u64) -> u64
 // The record at a place where all of it is there.
 fn record_at(kinds: &[u8; 256], s: &[u8], reader: ZlfReader, size: usize) -> Next
     requires { (length s.now ≤ trace_limit) × (size ≡ length_at s.now reader.place) × (end_place s.now reader.place < length s.now) }
-    ensures { told_next result ≡ record_read kinds.now s.now reader }
+    ensures { told_next result ≡ record_told kinds.now s.now reader }
 {
     let place = reader.place;
     let payload = place + RECORD_HEADER;

@@ -2,7 +2,7 @@
 use lib.Dec.{eqb}
 use mathlib.Core.Bool.{cond}
 use mathlib.Core.Path.{◌≡◌, refl}
-use Rattle.lemmas.proofs.Only.{only, number}
+use Rattle.choice.proofs.Only.{only, number}
 use Rattle.record.specs.Record.{RecordTold, told_record}
 use Rattle.record.specs.declared.Record.{Record}
 use Rattle.record.specs.declared.Record.TheVariants as Record

@@ -12,7 +12,7 @@ use native.Mathlib.Omega.{arith}
 use Rattle.ticks.specs.Ticks.{new_year, cleared, unix_millis, epoch, per_millisecond}
 use Rattle.record.proofs.Steps.{Steps}
 use Rattle.record.proofs.Ways.{holds}
-use Rattle.lemmas.proofs.Choice.{left_true, right_true}
+use Rattle.choice.proofs.Choice.{left_true, right_true}
 use Rattle.record.specs.Record.{Limits, plausible, length_in, valid, next_at}
 use Rattle.layout.specs.Fields.{ticks_at, length_at, end_place, next_place}
 

@@ -2,7 +2,7 @@
 use Rattle.std.specs.Prelude.{ℕ, ◌+◌, ltb, leb, eqb, ℤ, pos, length, get_or, Bool, true, false, not, cond, ◌&&◌, ◌||◌, List, [], ◌∷◌}
 use Rattle.std.proofs.Math.Option.{Option, none, some}
 use Rattle.ticks.specs.Ticks.{cleared, unix_millis}
-use Rattle.layout.specs.Layout.{trace_limit, payload_limit, payload_part}
+use Rattle.layout.specs.Layout.{trace_limit, payload_part}
 use Rattle.layout.specs.Fields.{ticks_at, outgoing_at, session_at, length_at, end_place, end_at, kind_at, next_place}
 use Rattle.record.specs.declared.Record.{Record}
 use Rattle.record.specs.declared.Record.TheVariants.{Valid, Absent, TraceTooLong}
@@ -16,10 +16,6 @@ pub record Limits : Type 0 where
 abbrev pub plausible : Limits
 plausible = record { low = 630822816000000000; high = 662479488000000000 }
 
--- the time of the last of these, in milliseconds since the Unix epoch: no valid record has a later one (`time_most` of proofs/Headers.antt)
-abbrev pub latest : ℕ
-latest = 4112352000000
-
 -- the six conditions, in 01's order. 1: "13 bytes are there"
 abbrev pub head_there : List ℕ → ℕ → Bool
 head_there s at = leb (at + payload_part) (length s)
@@ -30,7 +26,7 @@ ticks_in limits ticks = leb limits.low ticks && leb ticks limits.high
 
 -- 3: "the signed length is 1 to 1,048,576"; a negative length reads as 2 ^ 31 or more, which is turned away too
 abbrev pub length_in : ℕ → Bool
-length_in n = leb 1 n && leb n payload_limit
+length_in n = leb 1 n && leb n 1048576
 
 -- 4: "the end byte's offset .. is below the trace's length"
 abbrev pub end_inside : List ℕ → ℕ → Bool

@@ -7,18 +7,16 @@ ghost use Rattle.std.specs.Prelude.{◌≡◌, ◌≤◌, length};
 ghost use Rattle.layout.specs.Layout.{trace_limit};
 ghost use Rattle.record.specs.Record.{plausible, ticks_in, length_in, opens_right, record_at, told_record};
 
-use layout::{
-    LENGTH, MAX_PAYLOAD, PROPERTIES, PTI, PTI_DIAGNOSTIC, RECORD_HEADER, TRACE_LIMIT, UNKNOWN,
-};
+use layout::{LENGTH, PROPERTIES, PTI, PTI_DIAGNOSTIC, RECORD_HEADER, TRACE_LIMIT, UNKNOWN};
 use ticks::{TICKS_PER_MILLISECOND, TICKS_UNIX_EPOCH};
+
+// Largest payload considered plausible.
+const MAX_PAYLOAD: usize = 1_048_576;
 
 // Ticks that bound a plausible capture time, both accepted.
 const TICKS_2000: u64 = 630_822_816_000_000_000;
 
 const TICKS_2100: u64 = 662_479_488_000_000_000;
-
-// The time of the last of them, in milliseconds since the Unix epoch.
-pub const LATEST: u64 = 4_112_352_000_000;
 
 // What a PTI payload opens with.
 const PREAMBLE: u8 = 0x5B;
@@ -44,19 +42,6 @@ pub enum Record {
     Valid { header: RecordHeader },
     Absent,
     TraceTooLong,
-}
-
-impl Record {
-    // 01's number of the refusal, 0 where it is none.
-    pub fn refusal(self) -> u32
-        ensures { result ≡ (told_record self).refusal }
-    {
-        match self {
-            Record::Valid { header: _ } => 0,
-            Record::Absent => 0,
-            Record::TraceTooLong => 1,
-        }
-    }
 }
 
 // The condition on a record's ticks, the top two bits cleared.

@@ -9,7 +9,7 @@ mod seeks;
 mod sequence;
 mod stream;
 
-ghost use Rattle.std.specs.Prelude.{◌≡◌, ◌≤◌, length};
+ghost use Rattle.std.specs.Prelude.{◌≡◌, ◌<◌, ◌≤◌, length};
 
 use crate::out::Said;
 use libc::STDIN_FILENO;
@@ -157,9 +157,9 @@ fn spread(letter: u8, case: &[u8], lines: &mut [u8], line: usize) -> usize {
 // The answer to one case.
 fn answer(case: &[u8], trace: &[u8], g: Given, lines: &mut [u8], line: usize) -> usize {
     let letter = layout::u8_at(case, 0);
-    let next = text::put_byte(lines, out::spill(lines, line), letter);
+    let next = out::put_byte(lines, line, letter);
     let end = chosen(letter, case, trace, g, lines, next);
-    text::put_byte(lines, end, b'\n')
+    out::put_byte(lines, end, b'\n')
 }
 
 fn chosen(letter: u8, case: &[u8], trace: &[u8], g: Given, lines: &mut [u8], line: usize) -> usize {
@@ -267,16 +267,16 @@ fn stop(at: usize, end: usize, lines: &mut [u8], line: usize) -> usize {
     if at == end {
         return line;
     }
-    let text = text::put_text(lines, line, b"unknown or cut off at");
+    let text = out::put_text(lines, line, b"unknown or cut off at");
     let place = out::put_said(lines, text, out::words(0, 1, at as u64, 0, 0));
-    text::put_byte(lines, place, b'\n')
+    out::put_byte(lines, place, b'\n')
 }
 
 fn run(b: &mut [u8], lines: &mut [u8]) {
     let p = answers(b, lines);
     let stopped = stop(p.at, b.len(), lines, p.line);
     let count = out::put_said(lines, stopped, out::words(out::END, 1, p.cases, 0, 0));
-    let end = text::put_byte(lines, count, b'\n');
+    let end = out::put_byte(lines, count, b'\n');
     out::flush(lines, end);
 }
 

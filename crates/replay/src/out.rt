@@ -1,4 +1,4 @@
-// Lines for standard output. They are gathered in a lent buffer, which is written whenever little is left of it: each function takes the
+// Lines for standard output. They are gathered in a lent buffer, which is written whenever it is full: each function takes the
 // place where the buffer's free part begins, and gives the place after what it put there. Answers are worked out by value, as what
 // they say, and put in one go.
 use libc::STDOUT_FILENO;
@@ -75,27 +75,42 @@ pub fn refused(number: u64) -> Said {
     words(REFUSED, 1, number, 0, 0)
 }
 
-// Room for the longest that is put in one go, an answer of 8 bytes, 13 numbers and a letter or a digit for each of 256 bytes, and for the
-// short texts after it.
-const LONGEST: usize = 1024;
-
-// The place where the next text goes: where little is left, what is gathered is written.
-pub fn spill(out: &[u8], at: usize) -> usize {
-    if LONGEST <= out.len() {
-        if at <= out.len() - LONGEST {
-            return at;
-        }
+pub fn put_byte(out: &mut [u8], at: usize, b: u8) -> usize {
+    if at < out.len() {
+        out[at] = b;
+        return at + 1;
     }
-    flush(out, at);
-    0
+    io::write_all(STDOUT_FILENO, out);
+    if 0 < out.len() {
+        out[0] = b;
+    }
+    1
+}
+
+pub fn put_text(out: &mut [u8], at: usize, text: &[u8]) -> usize {
+    let mut next = at;
+    let mut i = 0;
+    while i < text.len() {
+        next = put_byte(out, next, text[i]);
+        i += 1;
+    }
+    next
+}
+
+fn put_decimal(out: &mut [u8], at: usize, n: u64) -> usize {
+    let mut text = [0u8; 20];
+    let k = io::decimal(n, &mut text);
+    put_text(out, at, &text[..k])
 }
 
 // A space, and the number.
 fn put_number(out: &mut [u8], at: usize, n: u64, has_sign: bool) -> usize {
-    if has_sign {
-        return lines::put_signed_field(out, at, signed(n));
+    let next = put_byte(out, at, b' ');
+    if has_sign & (0x8000_0000_0000_0000 <= n) {
+        let after = put_byte(out, next, b'-');
+        return put_decimal(out, after, std::num::wrapping_add_u64(!n, 1));
     }
-    lines::put_field(out, at, n)
+    put_decimal(out, next, n)
 }
 
 fn put_list(out: &mut [u8], at: usize, s: Said) -> usize {
@@ -117,7 +132,7 @@ fn put_letter(out: &mut [u8], at: usize, b: u8) -> usize {
     if b == 0 {
         return at;
     }
-    text::put_byte(out, at, b)
+    put_byte(out, at, b)
 }
 
 fn put_word(out: &mut [u8], at: usize, word: u64) -> usize {
@@ -134,14 +149,13 @@ fn put_word(out: &mut [u8], at: usize, word: u64) -> usize {
 }
 
 pub fn put_said(out: &mut [u8], at: usize, s: Said) -> usize {
-    let start = spill(out, at);
-    let word = put_word(out, start, s.word);
+    let word = put_word(out, at, s.word);
     let list = put_list(out, word, s);
     if s.letter == 0 {
         return list;
     }
-    let space = text::put_byte(out, list, b' ');
-    text::put_byte(out, space, s.letter)
+    let space = put_byte(out, list, b' ');
+    put_byte(out, space, s.letter)
 }
 
 pub fn put_both(out: &mut [u8], at: usize, a: Said, b: Said) -> usize {
@@ -151,10 +165,10 @@ pub fn put_both(out: &mut [u8], at: usize, a: Said, b: Said) -> usize {
 
 // A space, and a digit for each of 256 bytes.
 pub fn put_digits(out: &mut [u8], at: usize, digits: [u8; 256]) -> usize {
-    let mut next = text::put_byte(out, spill(out, at), b' ');
+    let mut next = put_byte(out, at, b' ');
     let mut i: usize = 0;
     while i < 256 {
-        next = text::put_byte(out, next, b'0' + digits[i] % 10);
+        next = put_byte(out, next, b'0' + digits[i] % 10);
         i += 1;
     }
     next
@@ -232,7 +246,7 @@ pub fn frame(
             region as u64,
             channel as u64,
             speed as u64,
-            bits(numbers::from_i8(rssi)),
+            bits(from_i8(rssi)),
             beam_count as u64,
             mpdu_len as u64,
             s.sum,
@@ -270,6 +284,18 @@ pub fn bits(z: i64) -> u64 {
         return std::num::wrapping_add_u64(!n, 1);
     }
     n
+}
+
+fn from_i8(x: i8) -> i64 {
+    x as i64
+}
+
+pub fn from_i32(x: i32) -> i64 {
+    x as i64
+}
+
+pub fn wide(x: u8) -> u64 {
+    x as u64
 }
 
 // How much a is above b.

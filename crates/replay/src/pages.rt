@@ -9,17 +9,11 @@ use seam::{Opening, Seam};
 // Opening as a cursor.
 pub fn opened(version: u32, trace: &[u8]) -> Said {
     let o = seam::open(trace, version);
-    let number = o.refusal() as u64;
     match o {
         Opening::Opened { version: found } => out::words(0, 1, found as u64, 0, 0),
-        Opening::OtherVersion { version: found } => out::words(
-            out::REFUSED,
-            2,
-            number,
-            found as u64,
-            0,
-        ),
-        _ => out::refused(number),
+        Opening::OtherVersion { version: found } => out::words(out::REFUSED, 2, 4, found as u64, 0),
+        Opening::TraceTooShort => out::refused(2),
+        Opening::TraceTooLong => out::refused(1),
     }
 }
 
@@ -36,7 +30,8 @@ pub fn seam(case: &[u8], trace: &[u8], kinds: &[u8; 256]) -> Said {
             place as u64,
             records as u64,
         ),
-        _ => out::refused(s.refusal() as u64),
+        Seam::PlaceOutside => out::refused(6),
+        Seam::TraceTooLong => out::refused(1),
     }
 }
 
@@ -98,7 +93,7 @@ fn row_at(r: Row, i: usize, n: usize, trace: &[u8], lines: &mut [u8], line: usiz
     if is_blank(r) {
         return line;
     }
-    text::put_text(lines, out::spill(lines, line), b" and a row past them")
+    out::put_text(lines, line, b" and a row past them")
 }
 
 // The rows of a table of which n were written.
@@ -115,7 +110,6 @@ fn rows_of(rows: [Row; 600], n: usize, trace: &[u8], lines: &mut [u8], line: usi
 
 // The line for a page: its start, its number of rows, and the next place if there is one; or its refusal.
 fn edge(p: Page) -> Said {
-    let number = p.refusal() as u64;
     match p {
         Page::More { start, size, next } => out::words(
             out::LINE_PAGE,
@@ -125,8 +119,9 @@ fn edge(p: Page) -> Said {
             next as u64,
         ),
         Page::Last { start, size } => last(start, size),
-        Page::TableTooShort => out::words(out::LINE_REFUSED, 1, number, 0, 0),
-        _ => out::refused(number),
+        Page::WindowTooLong => out::refused(5),
+        Page::TableTooShort => out::words(out::LINE_REFUSED, 1, 7, 0, 0),
+        Page::TraceTooLong => out::refused(1),
     }
 }
 
@@ -151,7 +146,9 @@ fn size_of(p: Page) -> usize {
             next: _,
         } => size,
         Page::Last { start: _, size } => size,
-        _ => 0,
+        Page::WindowTooLong => 0,
+        Page::TableTooShort => 0,
+        Page::TraceTooLong => 0,
     }
 }
 

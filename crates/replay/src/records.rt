@@ -2,8 +2,7 @@
 use crate::out;
 use crate::out::Said;
 use record::{Record, RecordHeader};
-use resync::Search;
-use span::RecordTime;
+use resync::{RecordTime, Search};
 
 // The numbers of a record, in the order of the oracle's line.
 fn numbers(h: RecordHeader) -> Said {
@@ -38,7 +37,7 @@ pub fn record(case: &[u8], trace: &[u8], kinds: &[u8; 256]) -> Said {
     match r {
         Record::Valid { header } => numbers(header),
         Record::Absent => out::words(out::NONE, 0, 0, 0, 0),
-        _ => out::refused(r.refusal() as u64),
+        Record::TraceTooLong => out::refused(1),
     }
 }
 
@@ -50,20 +49,22 @@ pub fn search(case: &[u8], trace: &[u8], kinds: &[u8; 256]) -> Said {
     match s {
         Search::Found { offset, judged } => out::words(0, 2, offset as u64, judged as u64, 0),
         Search::Nothing { judged } => out::words(out::NONE, 1, judged as u64, 0, 0),
-        _ => out::refused(s.refusal() as u64),
+        Search::WindowTooLong => out::refused(5),
+        Search::TraceTooLong => out::refused(1),
     }
 }
 
 // The first record from an offset on, and its time.
 pub fn time(case: &[u8], trace: &[u8], kinds: &[u8; 256]) -> Said {
     let from = layout::u64_at(case, 1) as usize;
-    let t = span::record_time_at(kinds, trace, from);
+    let t = resync::record_time_at(kinds, trace, from);
     match t {
         RecordTime::At {
             offset,
             unix_millis,
         } => out::words(0, 2, offset as u64, unix_millis, 0),
         RecordTime::Nothing => out::words(out::NONE, 0, 0, 0, 0),
-        _ => out::refused(t.refusal() as u64),
+        RecordTime::WindowTooLong => out::refused(5),
+        RecordTime::TraceTooLong => out::refused(1),
     }
 }

@@ -11,7 +11,7 @@ pub fn span(trace: &[u8], kinds: &[u8; 256]) -> Said {
     match s {
         Span::Times { first, last } => out::words(0, 2, first, last, 0),
         Span::Nothing => out::words(out::NONE, 0, 0, 0, 0),
-        _ => out::refused(s.refusal() as u64),
+        Span::TraceTooLong => out::refused(1),
     }
 }
 
@@ -22,7 +22,7 @@ pub fn whole(case: &[u8], trace: &[u8], kinds: &[u8; 256]) -> Said {
     match s {
         SeekTime::Found { offset, halvings } => out::words(0, 2, offset as u64, halvings as u64, 0),
         SeekTime::Nothing { halvings } => out::words(out::NONE, 1, halvings as u64, 0, 0),
-        _ => out::refused(s.refusal() as u64),
+        SeekTime::TraceTooLong => out::refused(1),
     }
 }
 
@@ -33,7 +33,7 @@ pub fn plain(case: &[u8], trace: &[u8], kinds: &[u8; 256]) -> Said {
     match s {
         PlainSeek::Found { offset } => out::words(0, 1, offset as u64, 0, 0),
         PlainSeek::Nothing => out::words(out::NONE, 0, 0, 0, 0),
-        _ => out::refused(s.refusal() as u64),
+        PlainSeek::TraceTooLong => out::refused(1),
     }
 }
 
@@ -70,7 +70,8 @@ pub fn step(case: &[u8], trace: &[u8], kinds: &[u8; 256]) -> Said {
         SeekStep::More { state: s } => state(out::MORE_SEARCHING, out::MORE_SCANNING, s),
         SeekStep::Scan { state: s } => state(out::SCAN_SEARCHING, out::SCAN_SCANNING, s),
         SeekStep::Done { found } => done(found),
-        _ => out::refused(r.refusal() as u64),
+        SeekStep::WindowTooLong => out::refused(5),
+        SeekStep::TraceTooLong => out::refused(1),
     }
 }
 
@@ -148,7 +149,7 @@ pub fn steps(case: &[u8], trace: &[u8], kinds: &[u8; 256]) -> Said {
     let target = out::signed(layout::u64_at(case, 1));
     let b = seek::seek_start(kinds, trace);
     let SeekStart::From { state } = b else {
-        return out::refused(b.refusal() as u64);
+        return out::refused(1);
     };
     driven(state, target, trace, kinds)
 }

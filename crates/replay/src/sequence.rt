@@ -61,13 +61,13 @@ fn stopped(number: u64, r: ZlfReader) -> Said {
     )
 }
 
-// The same for a payload whose length is negative.
-fn negative(n: u64, length: i32, r: ZlfReader) -> Said {
-    let bits = out::bits(numbers::from_i32(length));
+// The line for a payload whose length is negative.
+fn negative(length: i32, r: ZlfReader) -> Said {
+    let bits = out::bits(out::from_i32(length));
     let count = r.record_count();
     Said {
         word: out::LINE_REFUSED,
-        list: [n, bits, r.place as u64, count, 0, 0, 0, 0, 0, 0, 0, 0, 0],
+        list: [8, bits, r.place as u64, count, 0, 0, 0, 0, 0, 0, 0, 0, 0],
         count: 4,
         signed: 1,
         plain: 2,
@@ -77,12 +77,11 @@ fn negative(n: u64, length: i32, r: ZlfReader) -> Said {
 
 // The line for a read: a record, or how it ends.
 fn told(n: Next, trace: &[u8]) -> Said {
-    let number = n.refusal() as u64;
     match n {
         Next::Record { header, reader: _ } => entry(header, trace),
-        Next::InvalidPayloadLength { length, reader } => negative(number, length, reader),
-        Next::EofInHead { reader } => stopped(number, reader),
-        Next::EofInPayload { reader } => stopped(number, reader),
+        Next::InvalidPayloadLength { length, reader } => negative(length, reader),
+        Next::EofInHead { reader } => stopped(9, reader),
+        Next::EofInPayload { reader } => stopped(10, reader),
         Next::End { reader } => {
             out::words(
                 out::LINE_END,
@@ -92,7 +91,7 @@ fn told(n: Next, trace: &[u8]) -> Said {
                 0,
             )
         }
-        Next::TraceTooLong { reader: _ } => out::words(out::LINE_REFUSED, 1, number, 0, 0),
+        Next::TraceTooLong { reader: _ } => out::words(out::LINE_REFUSED, 1, 1, 0, 0),
     }
 }
 
@@ -127,17 +126,12 @@ fn most(trace: &[u8]) -> usize {
 
 // An opening.
 fn opening(o: Opening) -> Said {
-    let number = o.refusal() as u64;
     match o {
         Opening::Opened { version, reader: _ } => out::words(0, 1, version as u64, 0, 0),
-        Opening::InvalidZlfVersion { version } => out::words(
-            out::REFUSED,
-            2,
-            number,
-            version as u64,
-            0,
-        ),
-        _ => out::refused(number),
+        Opening::InvalidZlfVersion { version } => out::words(out::REFUSED, 2, 4, version as u64, 0),
+        Opening::InvalidHeaderChecksum => out::refused(3),
+        Opening::TraceTooShort => out::refused(2),
+        Opening::TraceTooLong => out::refused(1),
     }
 }
 

@@ -3,13 +3,12 @@ use Prim.Native.Nat.{ℕ, ◌+◌, ◌*◌, ◌%◌, ◌^◌, ◌≤◌, ◌<◌
 use borrow.Author.Tests.{le-leb, lt-leb, eqb-false}
 use lib.Dec.{leb, eqb}
 use lib.ListN.{get_or}
-use mathlib.Core.Bool.{false, and-false}
+use mathlib.Core.Bool.{Bool, true, false, ◌&&◌, ◌||◌, false≢true}
 use mathlib.Core.List.{List}
-use mathlib.Core.Logic.{⊎_elim}
-use mathlib.Core.Path.{◌≡◌, refl, ap}
+use mathlib.Core.Logic.{◌⊎◌, inl, inr, ⊎_elim}
+use mathlib.Core.Path.{◌≡◌, refl, sym, ap}
 use native.Mathlib.Decide.{dec_le}
 use native.Mathlib.Omega.{arith}
-use Rattle.lemmas.proofs.Choice.{neither, not_both}
 use Rattle.layout.proofs.Numbers.{below}
 use Rattle.layout.specs.Layout.{le_at}
 use Rattle.ticks.specs.Ticks.{cleared}
@@ -17,6 +16,19 @@ use Rattle.record.proofs.Ways.{fails}
 use Rattle.record.specs.Record.{plausible, ticks_in, valid}
 use Rattle.layout.specs.Fields.{ticks_at, length_at}
 use Rattle.resync.specs.Block.{may_ticks, may_begin}
+
+and-false : (a b : Bool) → b ≡ false → (a && b) ≡ false
+and-false true b e = e
+and-false false b e = refl
+
+-- what two tests of which neither, or not both, hold say
+neither : (a b : Bool) → (a || b) ≡ false → (a ≡ false) × (b ≡ false)
+neither true b e = absurd (false≢true (sym e))
+neither false b e = (refl, e)
+
+not_both : (a b : Bool) → (a && b) ≡ false → (a ≡ false) ⊎ (b ≡ false)
+not_both true b e = inr e
+not_both false b e = inl refl
 
 -- a byte that can be none of a valid record's ticks is neither 8 nor 9, the top two bits cleared
 not_high : (b : ℕ) → may_ticks b ≡ false → (b % 64 ≡ 8 → ⊥) × (b % 64 ≡ 9 → ⊥)
@@ -53,7 +65,7 @@ module _ (s : List ℕ) (at : ℕ) (bytes : (k : ℕ) → get_or s k 0 < 256) (k
       let not_0 : get_or s (at + 12) 0 ≡ 0 → ⊥ = eqb-false (get_or s (at + 12) 0) 0 e in
       let byte : get_or s (at + 9 + 3) 0 ≡ get_or s (at + 12) 0 = ap (λ (k : ℕ). get_or s k 0) (omega arith) in
       let large : 1048576 < length_at s at = omega (arith, length_split) in
-      fails plausible kinds s at 2 (rw (lt-leb (length_at s at) 1048576 large) (and-false (leb 1 (length_at s at))))
+      fails plausible kinds s at 2 (and-false (leb 1 (length_at s at)) (leb (length_at s at) 1048576) (lt-leb (length_at s at) 1048576 large))
 
   -- so a record with other high bytes is not valid
   pub turned_away : may_begin (get_or s (at + 7) 0) (get_or s (at + 12) 0) ≡ false → valid plausible kinds s at ≡ false

@@ -7,7 +7,7 @@ ghost use Rattle.layout.specs.Layout.{trace_limit};
 ghost use Rattle.record.specs.Record.{plausible, next_at};
 ghost use Rattle.resync.specs.Boundary.{boundary, boundary_at, told_boundary};
 ghost use Rattle.resync.specs.Block.{block, may_begin, none_valid, passed_to};
-ghost use Rattle.resync.specs.Search.{First, start_of, search_from, told_search};
+ghost use Rattle.resync.specs.Search.{First, start_of, search_from, told_search, time_at, told_time};
 
 use layout::{TRACE_LIMIT, ZLF_HEADER_SIZE};
 use record::Record;
@@ -47,34 +47,13 @@ pub enum Search {
     WindowTooLong,
 }
 
-impl Boundary {
-    // 01's number of the refusal, 0 where it is none.
-    pub fn refusal(self) -> u32
-        ensures { result ≡ (told_boundary self).refusal }
-    {
-        match self {
-            Boundary::Here => 0,
-            Boundary::NotHere => 0,
-            Boundary::TraceTooLong => 1,
-        }
-    }
-}
-
-impl Search {
-    // 01's number of the refusal, 0 where it is none.
-    pub fn refusal(self) -> u32
-        ensures { result ≡ (told_search self).refusal }
-    {
-        match self {
-            Search::Found {
-                offset: _,
-                judged: _,
-            } => 0,
-            Search::Nothing { judged: _ } => 0,
-            Search::TraceTooLong => 1,
-            Search::WindowTooLong => 5,
-        }
-    }
+// The first record at or after an offset, and its time in milliseconds.
+#[derive(Drop)]
+pub enum RecordTime {
+    At { offset: usize, unix_millis: u64 },
+    Nothing,
+    TraceTooLong,
+    WindowTooLong,
 }
 
 // True when `offset` begins a run of CHAIN valid records.
@@ -228,6 +207,12 @@ fn start_of(from: usize) -> usize
     }
 }
 
+fn smaller(a: usize, b: usize) -> usize
+    ensures { result ≡ min a b }
+{
+    if a < b { a } else { b }
+}
+
 // The first boundary at or after `from`, not below the header, of the offsets of a window.
 pub fn next_record_at(kinds: &[u8; 256], s: &[u8], from: usize, window: usize) -> Search
     ensures { told_search result ≡ search_from plausible kinds.now s.now from window }
@@ -239,7 +224,7 @@ pub fn next_record_at(kinds: &[u8; 256], s: &[u8], from: usize, window: usize) -
     if usize::MAX - start < window {
         return Search::WindowTooLong;
     }
-    let limit = numbers::smaller(start + window, s.len());
+    let limit = smaller(start + window, s.len());
     if limit <= start {
         return Search::Nothing { judged: 0 };
     }
@@ -252,5 +237,28 @@ pub fn next_record_at(kinds: &[u8; 256], s: &[u8], from: usize, window: usize) -
     }
     Search::Nothing {
         judged: limit - start,
+    }
+}
+
+// Capture time of the first record at or after `offset`, with its position.
+pub fn record_time_at(kinds: &[u8; 256], s: &[u8], offset: usize) -> RecordTime
+    ensures { told_time result ≡ time_at plausible kinds.now s.now offset }
+{
+    match next_record_at(kinds, s, offset, DEFAULT_WINDOW) {
+        Search::Found {
+            offset: at,
+            judged: _,
+        } => {
+            let Record::Valid { header } = record::read_record(kinds, s, at) else {
+                return RecordTime::Nothing;
+            };
+            RecordTime::At {
+                offset: at,
+                unix_millis: header.unix_millis,
+            }
+        }
+        Search::Nothing { judged: _ } => RecordTime::Nothing,
+        Search::TraceTooLong => RecordTime::TraceTooLong,
+        Search::WindowTooLong => RecordTime::WindowTooLong,
     }
 }

@@ -3,10 +3,10 @@
 use Prim.Native.Nat.{ℕ, zero, suc, ◌+◌, ◌≤◌, ◌<◌}
 use lib.ListN.{length}
 use mathlib.Core.List.{List, [], ◌∷◌}
-use mathlib.Core.Path.{◌≡◌, refl, sym, ap}
+use mathlib.Core.Path.{◌≡◌, refl, sym, ap, subst}
 use native.Mathlib.Omega.{arith}
 use Rattle.pti.specs.declared.PtiFrame.{PtiFrame}
-use Rattle.rows.specs.Frames.{Placed, first_frame}
+use Rattle.rows.specs.Frames.{Placed, first_of}
 use Rattle.rows.specs.declared.Next.{Next}
 use Rattle.rows.specs.declared.Next.TheVariants as Next
 
@@ -29,7 +29,7 @@ earlier g n a b h (f ∷ fs) o = record { rest = o.rest; further = omega (arith,
 
 module _ (g : ℕ → List Placed) (n : ℕ) (goes : (from : ℕ) → Goes g n from (g from)) where
   -- what the first frame says
-  first_by : (from : ℕ) (fs : List Placed) → Goes g n from fs → (f : PtiFrame) (next : ℕ) → first_frame fs ≡ Next.Frame f next
+  first_by : (from : ℕ) (fs : List Placed) → Goes g n from fs → (f : PtiFrame) (next : ℕ) → first_of fs ≡ Next.Frame f next
       → (fs ≡ record { frame = f; next = next } ∷ g next) × (from < next) × (next ≤ n) × (f.mpdu ≤ n)
   unfolding Goes
   first_by from [] o f next e = absurd (let z : ◌≡◌ {A = ℕ} 0 1 = cc in omega arith)
@@ -38,16 +38,16 @@ module _ (g : ℕ → List Placed) (n : ℕ) (goes : (from : ℕ) → Goes g n f
       let next_is : x.next ≡ next = cc in
       rw (sym frame_is) (rw (sym next_is) (ap (λ (l : List Placed). x ∷ l) (sym o.rest), o.further, o.inside, o.mpdu_inside))
 
-  pub first_frame_lem : (from : ℕ) (f : PtiFrame) (next : ℕ) → Next.Frame f next ≡ first_frame (g from)
+  pub first_frame : (from : ℕ) (f : PtiFrame) (next : ℕ) → Next.Frame f next ≡ first_of (g from)
       → (g from ≡ record { frame = f; next = next } ∷ g next) × (from < next) × (next ≤ n) × (f.mpdu ≤ n)
-  first_frame_lem from f next e = first_by from (g from) (goes from) f next (sym e)
+  first_frame from f next e = first_by from (g from) (goes from) f next (sym e)
 
-  none_by : (fs : List Placed) → first_frame fs ≡ Next.End → fs ≡ []
+  none_by : (fs : List Placed) → first_of fs ≡ Next.End → fs ≡ []
   none_by [] e = refl
   none_by (f ∷ fs) e = absurd (let z : ◌≡◌ {A = ℕ} 0 1 = cc in omega arith)
 
-  pub no_frame : (from : ℕ) → Next.End ≡ first_frame (g from) → g from ≡ []
-  no_frame from e = none_by (g from) (sym e)
+  pub no_frame_lem : (from : ℕ) → Next.End ≡ first_of (g from) → g from ≡ []
+  no_frame_lem from e = none_by (g from) (sym e)
 
   -- there are no more frames than bytes
   count_one : (t from : ℕ) (fs : List Placed) → Goes g n from fs → ((next : ℕ) → from < next → next ≤ n → suc (length (g next)) ≤ t) → length fs ≤ t

@@ -5,10 +5,10 @@ use lib.ListN.{length, get_or, take, drop, length-drop}
 use lib.Seq.{length-take-le, drop-drop, get_or-drop}
 use mathlib.Core.Bool.{Bool, true, false, ◌||◌, cond}
 use mathlib.Core.List.{List, [], ◌∷◌, ◌++◌}
-use mathlib.Core.Path.{◌≡◌, refl, sym, ap, ◌∙◌}
+use mathlib.Core.Path.{◌≡◌, refl, sym, ap, subst, ◌∙◌}
 use native.Mathlib.Decide.{dec_le}
 use native.Mathlib.Omega.{arith}
-use Rattle.lemmas.proofs.Choice.{either}
+use Rattle.choice.proofs.Choice.{either}
 use Rattle.pti.proofs.Mpdus.{mpdu_inside}
 use Rattle.bracket.proofs.Splitting.{body_inside, next_further}
 use Rattle.bracket.specs.Bracket.{next_record}
@@ -19,13 +19,13 @@ use Rattle.pti.specs.declared.Parsed.{Parsed}
 use Rattle.pti.specs.declared.Parsed.TheVariants as Parsed
 use Rattle.zniffer_laws.proofs.Theorems.{numbers_agree, payload_ends_there}
 use Rattle.zniffer.specs.Parse.{fresh_parser, run_from}
-use Rattle.zniffer_laws.specs.Statements.{payload_length, EndsThere}
+use Rattle.zniffer_laws.specs.Statements.{length_of, EndsThere}
 use Rattle.zniffer_numbers.specs.Numbers.{fresh_core, goes_on}
 use Rattle.zniffer_core.specs.Run.{core_run_from}
 use Rattle.zniffer_core.specs.declared.CoreRan.{CoreRan}
 use Rattle.zniffer_numbers.specs.declared.ParserResult.{ParserResult}
 use Rattle.zniffer_numbers.specs.declared.ParserResult.TheVariants.{ValidCommand, ValidFrame, IncompleteFrame, InvalidFrame}
-use Rattle.rows.specs.Frames.{Placed, frame_held, pti_from, completed, zniffer_from, frames_from}
+use Rattle.rows.specs.Frames.{Placed, held_by, pti_from, completed, zniffer_from, frames_from}
 use Rattle.rows.proofs.Pti as pti
 use Rattle.rows.proofs.Zniffer as zniffer
 
@@ -35,7 +35,7 @@ AllIn n [] = Unit
 AllIn n (f ∷ fs) = (f.frame.mpdu + f.frame.mpdu_len ≤ n) × AllIn n fs
 
 module _ (p : List ℕ) where
-  held_in : (at len : ℕ) (r : Parsed) → frame_of (take len (drop at p)) ≡ r → at + len ≤ length p → (rest : List Placed) → AllIn (length p) rest → AllIn (length p) (frame_held at len r ++ rest)
+  held_in : (at len : ℕ) (r : Parsed) → frame_of (take len (drop at p)) ≡ r → at + len ≤ length p → (rest : List Placed) → AllIn (length p) rest → AllIn (length p) (held_by at len r ++ rest)
   unfolding AllIn
   held_in at len Parsed.Nothing e i rest h = h
   held_in at len (Parsed.Frame f) e i rest h =
@@ -72,20 +72,20 @@ module _ (out : Bool) (p : List ℕ) (bytes : (k : ℕ) → get_or p k 0 < 256) 
     same_used : ran.used ≡ (run_from 0 (drop from p) fresh_parser).out.used
     same_used = ap (λ (x : CoreRan). x.used) (numbers_agree fresh_parser (drop from p))
 
-    fits : payload_length ran.result ≤ ran.used
+    fits : length_of ran.result ≤ ran.used
     fits = rw same_result (rw same_used (from_there from).fits)
 
     -- the MPDU of the frame that a run completes is what the whole parser hands out
     pub mpdu_bytes : (w k v g r n : ℕ) → ran.result ≡ ValidFrame w k v g r n
         → take n (drop (from + ran.used - n) p) ≡ take n (run_from 0 (drop from p) fresh_parser).out.answer.payload
     mpdu_bytes w k v g r n e =
-        let size : payload_length whole_result ≡ n = ap payload_length (sym same_result ∙ e) in
-        let long : n ≤ ran.used = rw (ap payload_length e) at fits in
+        let size : length_of whole_result ≡ n = ap length_of (sym same_result ∙ e) in
+        let long : n ≤ ran.used = rw (ap length_of e) at fits in
         let place : from + ran.used - n ≡ from + (ran.used - n) = omega arith in
         let said = rw (sym same_used) at (rw size at (from_there from).bytes) in
         rw place (rw (sym (drop-drop (ran.used - n) from p)) (sym said))
 
-  result_in : (end : ℕ) → end ≤ length p → (r : ParserResult) → payload_length r ≤ end → (rest : List Placed) → AllIn (length p) rest → AllIn (length p) (completed out end r ++ rest)
+  result_in : (end : ℕ) → end ≤ length p → (r : ParserResult) → length_of r ≤ end → (rest : List Placed) → AllIn (length p) rest → AllIn (length p) (completed out end r ++ rest)
   unfolding AllIn
   result_in end i (ValidFrame w k v g r n) h rest later = (omega arith, later)
   result_in end i (ValidCommand c n) h rest later = later

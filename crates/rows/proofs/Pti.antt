@@ -4,25 +4,25 @@ use borrow.Author.Tests.{ltb-true}
 use lib.Dec.{ltb}
 use lib.ListN.{length, take, drop, length-drop}
 use lib.Seq.{length-take-le}
-use mathlib.Core.Bool.{true, false}
-use mathlib.Core.List.{List, [], ◌++◌, flat_map}
+use mathlib.Core.Bool.{Bool, true, false}
+use mathlib.Core.List.{List, [], ◌∷◌, ◌++◌, flat_map}
 use mathlib.Core.Path.{◌≡◌, refl, sym, ap, subst, ◌∙◌}
 use native.Mathlib.Omega.{arith}
-use Rattle.lemmas.proofs.Choice.{by_choice}
+use Rattle.choice.proofs.Choice.{by_choice}
 use Rattle.bracket.proofs.Splitting.{head, body_inside, next_further, next_inside}
 use Rattle.bracket.proofs.Walks.{outside}
 use Rattle.pti.proofs.Mpdus.{mpdu_inside}
-use Rattle.bracket.specs.Bracket.{bracket_length, after_bracket, good, Piece, body_at, bracket_walk, bodies_from, body_step, next_record}
+use Rattle.bracket.specs.Bracket.{length_at, next_at, good, Piece, body_at, walk, bodies_from, step_at, next_record}
 use Rattle.pti.specs.Frame.{frame_of}
 use Rattle.bracket.specs.declared.Split.{Split}
 use Rattle.bracket.specs.declared.Split.TheVariants.{Body, End}
 use Rattle.pti.specs.declared.Parsed.{Parsed}
 use Rattle.pti.specs.declared.Parsed.TheVariants as Parsed
 use Rattle.pti.specs.declared.PtiFrame.{PtiFrame}
-use Rattle.rows.specs.Frames.{shifted, frame_held, held_in, pti_from, first_frame}
+use Rattle.rows.specs.Frames.{Placed, shifted, held_by, held_in, pti_from, first_of}
 use Rattle.rows.specs.declared.Next.{Next}
 use Rattle.rows.specs.declared.Next.TheVariants as Next
-use Rattle.rows.proofs.Goes.{Goes, earlier}
+use Rattle.rows.proofs.Goes.{Onward, Goes, earlier}
 
 -- one byte stands between a body and the next place
 Closed : Split → Type 0
@@ -30,16 +30,16 @@ Closed (Body at len next) = next ≡ at + len + 1
 Closed End = Unit
 
 module _ (p : List ℕ) where
-  closed_walk : (n at : ℕ) → Closed (bracket_walk (body_step p) End p n at)
-  unfolding bracket_walk Closed
+  closed_walk : (n at : ℕ) → Closed (walk (step_at p) End p n at)
+  unfolding walk Closed
   closed_walk zero at = tt
   closed_walk (suc n) at =
-      let later = bracket_walk (body_step p) End p n (after_bracket p at) in
-      by_choice Closed (good p at) {a = body_step p at later} {b = End}
+      let later = walk (step_at p) End p n (next_at p at) in
+      by_choice Closed (good p at) {a = step_at p at later} {b = End}
       (λ (g : good p at ≡ true).
-      by_choice Closed (ltb 1 (bracket_length p at)) {a = Body (at + 3) (bracket_length p at - 2) (after_bracket p at)} {b = later}
-      (λ (m : ltb 1 (bracket_length p at) ≡ true). let l : 1 < bracket_length p at = ltb-true 1 (bracket_length p at) m in omega arith)
-      (λ (m : ltb 1 (bracket_length p at) ≡ false). closed_walk n (after_bracket p at)))
+      by_choice Closed (ltb 1 (length_at p at)) {a = Body (at + 3) (length_at p at - 2) (next_at p at)} {b = later}
+      (λ (m : ltb 1 (length_at p at) ≡ true). let l : 1 < length_at p at = ltb-true 1 (length_at p at) m in omega arith)
+      (λ (m : ltb 1 (length_at p at) ≡ false). closed_walk n (next_at p at)))
       (λ (g : good p at ≡ false). tt)
 
   closed : (from : ℕ) → Closed (next_record p from)
@@ -60,13 +60,13 @@ module _ (p : List ℕ) where
   no_body from e = rw (head p from) (rw e)
 
   module _ (from at len next : ℕ) (e : next_record p from ≡ Body at len next) where
-    pub body : pti_from p from ≡ frame_held at len (frame_of (take len (drop at p))) ++ pti_from p next
+    pub body : pti_from p from ≡ held_by at len (frame_of (take len (drop at p))) ++ pti_from p next
     unfolding pti_from flat_map
     body = rw (head p from) (rw e)
 
   goes_held : (from at len next : ℕ) → from < next → next ≤ length p → next ≡ at + len + 1 → (r : Parsed) → frame_of (take len (drop at p)) ≡ r
       → Goes (pti_from p) (length p) next (pti_from p next)
-      → Goes (pti_from p) (length p) from (frame_held at len r ++ pti_from p next)
+      → Goes (pti_from p) (length p) from (held_by at len r ++ pti_from p next)
   unfolding Goes
   goes_held from at len next f i n Parsed.Nothing e later = earlier (pti_from p) (length p) from next (omega arith) (pti_from p next) later
   goes_held from at len next f i n (Parsed.Frame g) e later =
@@ -100,7 +100,7 @@ module _ (p : List ℕ) (at from start len next : ℕ) (inv : pti_from p from �
   holds : frame_of (take len (drop start p)) ≡ r
   holds = let size_is : start + len - start ≡ len = omega arith in sym (rw size_is at r-is)
 
-  pub is_frame : (f g : PtiFrame) → r ≡ Parsed.Frame f → g ≡ shifted start f → Next.Frame g next ≡ first_frame (pti_from p at)
+  pub is_frame : (f g : PtiFrame) → r ≡ Parsed.Frame f → g ≡ shifted start f → Next.Frame g next ≡ first_of (pti_from p at)
   is_frame f g h g_is =
       let held : frame_of (take len (drop start p)) ≡ Parsed.Frame f = holds ∙ h in
       rw (sym inv) (rw (body p from start len next e) (rw held (rw g_is (ap (λ (n : ℕ). Next.Frame (shifted start f) n) (next_is p from start len next e)))))

@@ -7,11 +7,12 @@ use lib.ListN.{length}
 use mathlib.Core.Bool.{Bool, true, false, ◌||◌, cond}
 use mathlib.Core.List.{List, [], ◌∷◌}
 use mathlib.Core.Path.{◌≡◌, refl}
+use native.Mathlib.Omega.{arith}
 use Rattle.pti.specs.declared.PtiFrame.{PtiFrame}
-use Rattle.rows.specs.Frames.{first_frame, pti_from, zniffer_from, frames_from}
+use Rattle.rows.specs.Frames.{Placed, first_of, pti_from, zniffer_from, frames_from}
 use Rattle.rows.specs.declared.Next.{Next}
 use Rattle.rows.specs.declared.Next.TheVariants as Next
-use Rattle.rows.proofs.Goes.{Goes, first_frame_lem, no_frame, count_most}
+use Rattle.rows.proofs.Goes.{Goes, first_frame, no_frame_lem, count_most}
 use Rattle.rows.proofs.Pti as pti
 use Rattle.rows.proofs.Zniffer as zniffer
 
@@ -27,12 +28,12 @@ module _ (kind : ℕ) (out : Bool) (p : List ℕ) where
   goes from = chosen (eqb kind 1 || eqb kind 2) (eqb kind 3) from
 
   -- a frame, and the frames after it
-  pub one_more_lem : (from : ℕ) (f : PtiFrame) (next : ℕ) → Next.Frame f next ≡ first_frame (frames_from kind out p from)
+  pub one_more_lem : (from : ℕ) (f : PtiFrame) (next : ℕ) → Next.Frame f next ≡ first_of (frames_from kind out p from)
       → (frames_from kind out p from ≡ record { frame = f; next = next } ∷ frames_from kind out p next) × (from < next) × (next ≤ length p) × (f.mpdu ≤ length p)
-  one_more_lem = first_frame_lem (frames_from kind out p) (length p) goes
+  one_more_lem = first_frame (frames_from kind out p) (length p) goes
 
-  pub none_left : (from : ℕ) → Next.End ≡ first_frame (frames_from kind out p from) → frames_from kind out p from ≡ []
-  none_left = no_frame (frames_from kind out p) (length p) goes
+  pub none_left : (from : ℕ) → Next.End ≡ first_of (frames_from kind out p from) → frames_from kind out p from ≡ []
+  none_left = no_frame_lem (frames_from kind out p) (length p) goes
 
   pub at_most : length (frames_from kind out p 0) ≤ length p
   at_most = count_most (frames_from kind out p) (length p) goes

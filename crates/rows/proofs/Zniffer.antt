@@ -6,12 +6,12 @@ use lib.Seq.{drop-drop, take_all}
 use mathlib.Core.Bool.{Bool, true, false, true≢false}
 use mathlib.Core.List.{List, [], ◌∷◌, ◌++◌}
 use mathlib.Core.Logic.{◌⊎◌, ⊎_elim}
-use mathlib.Core.Path.{◌≡◌, refl, sym, ap, ◌∙◌}
+use mathlib.Core.Path.{◌≡◌, refl, sym, ap, subst, ◌∙◌}
 use native.Mathlib.Decide.{dec_le}
 use native.Mathlib.Numerals.{unary_clauses}
 use native.Mathlib.Omega.{arith}
 use native.Mathlib.Nat.{add_assoc}
-use Rattle.lemmas.proofs.Choice.{either}
+use Rattle.choice.proofs.Choice.{either}
 use Rattle.zniffer_laws.proofs.AfterStep.{fresh_after}
 use Rattle.zniffer_core.proofs.RunLaws.{used_most, used_some}
 use Rattle.zniffer_numbers.specs.contracts.ParserResult.{the_type}
@@ -22,10 +22,10 @@ use Rattle.zniffer_numbers.specs.declared.Core.{Core}
 use Rattle.zniffer_core.specs.declared.CoreRan.{CoreRan}
 use Rattle.zniffer_numbers.specs.declared.ParserResult.{ParserResult}
 use Rattle.zniffer_numbers.specs.declared.ParserResult.TheVariants.{ValidCommand, ValidFrame, IncompleteFrame, InvalidFrame}
-use Rattle.rows.specs.Frames.{zniffer_frame, completed, completed_by, zniffer_from, first_frame}
+use Rattle.rows.specs.Frames.{Placed, zniffer_frame, completed, completed_by, zniffer_from, first_of}
 use Rattle.rows.specs.declared.Next.{Next}
 use Rattle.rows.specs.declared.Next.TheVariants as Next
-use Rattle.rows.proofs.Goes.{Goes, earlier}
+use Rattle.rows.proofs.Goes.{Onward, Goes, earlier}
 
 -- while more bytes are wanted nothing is complete
 wanted : (out : Bool) (end : ℕ) (r : ParserResult) → goes_on r ≡ true → completed out end r ≡ []
@@ -139,15 +139,15 @@ module _ (out : Bool) (p : List ℕ) (at from : ℕ) (inv : zniffer_from out p f
   pub code_further : from < length p → from < from + r.used
   code_further h = rw is_run (used_further out p from h)
 
-  pub incomplete : r.result ≡ IncompleteFrame → Next.End ≡ first_frame (zniffer_from out p at)
+  pub incomplete : r.result ≡ IncompleteFrame → Next.End ≡ first_of (zniffer_from out p at)
   incomplete e =
       let on : goes_on (ran out p from).result ≡ true = ap (λ (x : CoreRan). goes_on x.result) (sym is_run) ∙ ap goes_on e in
-      ap first_frame (sym (sym inv ∙ wants_more out p from on))
+      ap first_of (sym (sym inv ∙ wants_more out p from on))
 
   ended : goes_on r.result ≡ false → zniffer_from out p at ≡ completed out (from + r.used) r.result ++ zniffer_from out p (from + r.used)
   ended e = sym inv ∙ rw is_run (gave out p from (rw is_run at e))
 
-  pub a_frame : (w k v g s n : ℕ) → r.result ≡ ValidFrame w k v g s n → (f : PtiFrame) → f ≡ zniffer_frame out (from + r.used) k v g s n → Next.Frame f (from + r.used) ≡ first_frame (zniffer_from out p at)
+  pub a_frame : (w k v g s n : ℕ) → r.result ≡ ValidFrame w k v g s n → (f : PtiFrame) → f ≡ zniffer_frame out (from + r.used) k v g s n → Next.Frame f (from + r.used) ≡ first_of (zniffer_from out p at)
   a_frame w k v g s n e f f-is =
       let is : zniffer_from out p at ≡ completed out (from + r.used) (ValidFrame w k v g s n) ++ zniffer_from out p (from + r.used) = rw e at (ended (ap goes_on e)) in
       rw is (rw f-is)

@@ -1,5 +1,5 @@
 -- The frames of a record's payload, in order, each with the place in the payload after the bytes that hold it.
-use Rattle.std.specs.Prelude.{ℕ, ◌+◌, ◌-◌, eqb, take, drop, Bool, ◌||◌, cond}
+use Rattle.std.specs.Prelude.{ℕ, ◌+◌, ◌-◌, eqb, pos, take, drop, Bool, true, false, ◌||◌, cond}
 use mathlib.Core.List.{List, [], ◌∷◌, ◌++◌, flat_map}
 use Rattle.std.specs.Int.{w8}
 use Rattle.std.proofs.Common.{to_z}
@@ -36,12 +36,12 @@ shifted place f =
     }
 
 -- the frame of a body, if it holds one; one byte, 0x5D, stands after a body
-abbrev pub frame_held : ℕ → ℕ → Parsed → List Placed
-frame_held at len (Parsed.Frame f) = record { frame = shifted at f; next = at + len + 1 } ∷ []
-frame_held at len Parsed.Nothing = []
+abbrev pub held_by : ℕ → ℕ → Parsed → List Placed
+held_by at len (Parsed.Frame f) = record { frame = shifted at f; next = at + len + 1 } ∷ []
+held_by at len Parsed.Nothing = []
 
 abbrev pub held_in : List ℕ → Piece → List Placed
-held_in payload b = frame_held b.at b.len (frame_of (take b.len (drop b.at payload)))
+held_in payload b = held_by b.at b.len (frame_of (take b.len (drop b.at payload)))
 
 -- 01: "Kinds 1 and 2 give PTI frames": those of the bodies that hold one, in order, from a place on
 unfoldable pub pti_from : List ℕ → ℕ → List Placed
@@ -84,6 +84,6 @@ frames_from kind outgoing payload at =
     cond (eqb kind 1 || eqb kind 2) (pti_from payload at) (cond (eqb kind 3) (zniffer_from outgoing payload at) [])
 
 -- the first of some frames
-abbrev pub first_frame : List Placed → Next
-first_frame [] = Next.End
-first_frame (f ∷ fs) = Next.Frame f.frame f.next
+abbrev pub first_of : List Placed → Next
+first_of [] = Next.End
+first_of (f ∷ fs) = Next.Frame f.frame f.next

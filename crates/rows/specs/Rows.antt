@@ -1,9 +1,8 @@
 -- The rows of a record: one to a frame, as numbers.
-use Rattle.std.specs.Prelude.{ℕ, ◌+◌, ℤ, pos, ◌-ℤ◌, List, [], ◌∷◌}
-use Rattle.std.proofs.Math.Option.{Option, none, some}
+use Rattle.std.specs.Prelude.{ℕ, ◌+◌, ℤ, pos, take, drop, List, [], ◌∷◌}
 use Rattle.ticks.specs.Ticks.{unix_millis}
 use Rattle.layout.specs.Layout.{payload_part}
-use Rattle.layout.specs.Fields.{ticks_at, outgoing_at, payload_at, kind_at}
+use Rattle.layout.specs.Fields.{ticks_at, outgoing_at, length_at, kind_at}
 use Rattle.pti.specs.declared.PtiFrame.{PtiFrame}
 use Rattle.rows.specs.Frames.{Placed, frames_from}
 use Rattle.rows.specs.declared.Row.{Row}
@@ -27,28 +26,9 @@ row_of at position millis gap f =
       mpdu_len = f.mpdu_len;
     }
 
--- a row with nothing in it
-abbrev pub blank_row : Row
-blank_row =
-    record {
-      «record» = 0;
-      position = 0;
-      millis = pos 0;
-      gap = pos 0;
-      direction = 0;
-      region = 0;
-      channel = 0;
-      speed = 0;
-      rssi = pos 0;
-      beam_count = 0;
-      mpdu = 0;
-      mpdu_len = 0;
-    }
-
--- 01: "gap to the previous row's time (0 for the first)"
-abbrev pub gap_of : Option ℤ → ℤ → ℤ
-gap_of none time = pos 0
-gap_of (some before) time = time -ℤ before
+-- a record's payload
+abbrev pub payload_at : List ℕ → ℕ → List ℕ
+payload_at s at = take (length_at s at) (drop (at + payload_part) s)
 
 -- the frames of the record at a place, from a place in its payload on
 abbrev pub frames_at : List ℕ → List ℕ → ℕ → ℕ → List Placed

@@ -5,10 +5,10 @@ use Rattle.rows.specs.declared.Next.{Next}
 use Rattle.rows.specs.declared.Next.TheVariants as Next
 
 -- the frame, as that of a body is told, and the place after the bytes that hold it; what is not said is 0
-pub record NextFrameTold : Type 0 where
+pub record NextTold : Type 0 where
   pub frame : ParsedTold
   pub next : ℕ
 
-abbrev pub told_next_frame : Next → NextFrameTold
-told_next_frame (Next.Frame f next) = record { frame = told_frame f; next = next }
-told_next_frame Next.End = record { frame = no_frame; next = 0 }
+abbrev pub told_next : Next → NextTold
+told_next (Next.Frame f next) = record { frame = told_frame f; next = next }
+told_next Next.End = record { frame = no_frame; next = 0 }

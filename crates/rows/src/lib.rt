@@ -3,9 +3,10 @@
 // A walk over the frames of a payload goes by one index: after each frame the Zniffer parser is fresh, and a bracket record
 // is passed whole, so what comes next depends on the place alone.
 ghost use Rattle.std.specs.Prelude.{◌≡◌, ◌+◌, ◌-◌, ◌<◌, length};
+ghost use Rattle.std.specs.Int.{w8};
+ghost use Rattle.std.proofs.Common.{to_z};
 ghost use Rattle.pti.specs.Frame.{direction_of};
-ghost use Rattle.rows.specs.Rows.{blank_row};
-ghost use Rattle.rows.specs.Frames.{shifted, zniffer_frame, first_frame, pti_from, zniffer_from, frames_from};
+ghost use Rattle.rows.specs.Frames.{shifted, zniffer_frame, first_of, pti_from, zniffer_from, frames_from};
 
 use bracket::Split;
 use layout::{PTI, PTI_DIAGNOSTIC, ZNIFFER};
@@ -44,24 +45,20 @@ pub enum Next {
     End,
 }
 
-// A row with nothing in it.
-pub fn blank() -> Row
-    ensures { result ≡ blank_row }
+fn wide(x: u8) -> usize
+    ensures { (result ≡ x) × (result < 256) }
 {
-    Row {
-        record: 0,
-        position: 0,
-        millis: 0,
-        gap: 0,
-        direction: 0,
-        region: 0,
-        channel: 0,
-        speed: 0,
-        rssi: 0,
-        beam_count: 0,
-        mpdu: 0,
-        mpdu_len: 0,
+    x as usize
+}
+
+// A byte read as signed.
+fn signed(x: u8) -> i8
+    ensures { result ≡ to_z w8 x }
+{
+    if x < 128 {
+        return x as i8;
     }
+    !((255 - x) as i8)
 }
 
 // A body's frame, its MPDU's place counted from where the body stands.
@@ -76,7 +73,7 @@ fn moved(at: usize, f: PtiFrame) -> PtiFrame
 
 // The first frame of the bodies from a place on.
 fn next_pti(payload: &[u8], at: usize) -> Next
-    ensures { result ≡ first_frame (pti_from payload.now at) }
+    ensures { result ≡ first_of (pti_from payload.now at) }
 {
     let mut from = at;
     while from < payload.len() {
@@ -125,13 +122,13 @@ fn framed(
 ) -> PtiFrame
     ensures { result ≡ zniffer_frame outgoing end channel speed region rssi length }
 {
-    let n = numbers::wide(length);
+    let n = wide(length);
     PtiFrame {
         direction: direction(outgoing),
         region,
         channel,
         speed,
-        rssi: numbers::signed(rssi),
+        rssi: signed(rssi),
         beam_count: 0,
         mpdu: back_by(end, n),
         mpdu_len: n,
@@ -140,7 +137,7 @@ fn framed(
 
 // The first frame that the bytes from a place on complete, in a fresh parser.
 fn next_zniffer(payload: &[u8], outgoing: bool, at: usize) -> Next
-    ensures { result ≡ first_frame (zniffer_from outgoing payload.now at) }
+    ensures { result ≡ first_of (zniffer_from outgoing payload.now at) }
 {
     let mut from = at;
     while from < payload.len() {
@@ -170,7 +167,7 @@ fn next_zniffer(payload: &[u8], outgoing: bool, at: usize) -> Next
 
 // The first frame of a record's payload from a place on: 0, and then each `next` until `End`.
 pub fn next_frame(payload: &[u8], kind: u8, outgoing: bool, at: usize) -> Next
-    ensures { result ≡ first_frame (frames_from kind outgoing payload.now at) }
+    ensures { result ≡ first_of (frames_from kind outgoing payload.now at) }
 {
     if (kind == PTI) | (kind == PTI_DIAGNOSTIC) {
         return next_pti(payload, at);

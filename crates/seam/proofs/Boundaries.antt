@@ -1,16 +1,21 @@
 -- In an unbroken stretch every record begins at a boundary, so that a search from its place finds it at once. Over any record test. Assumes nothing.
-use Prim.Native.Nat.{ℕ, suc, ◌+◌, ◌-◌, ◌≤◌, ◌<◌, min}
+use Prim.Native.Nat.{ℕ, zero, suc, ◌+◌, ◌-◌, ◌≤◌, ◌<◌, min}
 use borrow.Author.Tests.{eq-eqb}
-use mathlib.Core.Bool.{true, or-true}
-use mathlib.Core.Option.{Option}
-use mathlib.Core.Path.{◌≡◌, refl}
+use lib.Dec.{eqb}
+use mathlib.Core.Bool.{Bool, true, false, ◌||◌}
+use mathlib.Core.Option.{Option, none, some}
+use mathlib.Core.Path.{◌≡◌, refl, sym, ap, ◌∙◌}
 use native.Mathlib.Omega.{arith}
 use Rattle.layout.specs.Layout.{header_size, trace_limit}
 use Rattle.record.proofs.Steps.{Steps, past_end}
 use Rattle.resync.proofs.Searched.{is_there, no_offset}
 use Rattle.resync.specs.Boundary.{boundary}
-use Rattle.resync.specs.Search.{found, nothing, searched, default_window}
+use Rattle.resync.specs.Search.{First, start_of, found, nothing, searched, default_window}
 use Rattle.seam.specs.Seam.{Unbroken, ends, more}
+
+or-true : (b : Bool) → (b || true) ≡ true
+or-true true = refl
+or-true false = refl
 
 module _ (next : ℕ → Option ℕ) (n : ℕ) (steps : Steps next n) where
   pub unbroken_inside : {at k : ℕ} → Unbroken next n at k → at ≤ n

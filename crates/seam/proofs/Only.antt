@@ -3,29 +3,29 @@
 use lib.Dec.{eqb}
 use mathlib.Core.Bool.{cond}
 use mathlib.Core.Path.{◌≡◌, refl}
-use Rattle.lemmas.proofs.Only.{only}
-use Rattle.seam.specs.Opening.{CursorTold, told_cursor}
+use Rattle.choice.proofs.Only.{only}
+use Rattle.seam.specs.Opening.{OpeningTold, told_opening}
 use Rattle.seam.specs.Seam.{SeamTold, told_seam}
 use Rattle.seam.specs.declared.Opening.{Opening}
 use Rattle.seam.specs.declared.Opening.TheVariants as Opening
 use Rattle.seam.specs.declared.Seam.{Seam}
 use Rattle.seam.specs.declared.Seam.TheVariants as Seam
 
-back_opening : CursorTold → Opening
+back_opening : OpeningTold → Opening
 back_opening t =
     cond (eqb t.refusal 0) (Opening.Opened t.version)
     (cond (eqb t.refusal 1) Opening.TraceTooLong
     (cond (eqb t.refusal 2) Opening.TraceTooShort (Opening.OtherVersion t.version)))
 
-same_opening : (r : Opening) → back_opening (told_cursor r) ≡ r
+same_opening : (r : Opening) → back_opening (told_opening r) ≡ r
 unfolding back_opening
 same_opening (Opening.Opened v) = refl
 same_opening Opening.TraceTooLong = refl
 same_opening Opening.TraceTooShort = refl
 same_opening (Opening.OtherVersion v) = refl
 
-pub only_opening : (a b : Opening) → told_cursor a ≡ told_cursor b → a ≡ b
-only_opening = only told_cursor back_opening same_opening
+pub only_opening : (a b : Opening) → told_opening a ≡ told_opening b → a ≡ b
+only_opening = only told_opening back_opening same_opening
 
 back_seam : SeamTold → Seam
 back_seam t =

@@ -1,16 +1,16 @@
 -- The seam check: what the code has at each way out, and that its answer says what the plain statements say. Assumes nothing.
-use Prim.Native.Nat.{ℕ, ◌+◌, ◌≤◌, ◌<◌}
+use Prim.Native.Nat.{ℕ, zero, suc, ◌+◌, ◌≤◌, ◌<◌}
 use borrow.Author.Tests.{ltb-false, lt-ltb, le-ltb, eq-eqb, ne_eqb}
-use lib.Dec.{ltb}
-use mathlib.Core.Bool.{true, false, ◌||◌}
+use lib.Dec.{ltb, eqb}
+use mathlib.Core.Bool.{Bool, true, false, ◌||◌, cond, true≢false}
 use mathlib.Core.Option.{Option, none, some}
-use mathlib.Core.Path.{◌≡◌, sym, ap, ◌∙◌}
+use mathlib.Core.Path.{◌≡◌, refl, sym, ap, ◌∙◌}
 use native.Mathlib.Omega.{arith}
-use Rattle.lemmas.proofs.Choice.{neither}
 use Rattle.layout.specs.Layout.{header_size, trace_limit}
 use Rattle.record.proofs.Steps.{Steps, past_end}
-use Rattle.seam.specs.Seam.{Reached, reached, one_more, reach, unbroken_with, broken_at, seam_refused, seam_of, seam_from}
-use Rattle.record.proofs.Walks.{stopped, goes_on_lem}
+use Rattle.seam.specs.Walk.{walk}
+use Rattle.seam.specs.Seam.{Reached, reached, one_more, reach, SeamTold, unbroken_with, broken_at, seam_refused, seam_of, seam_from}
+use Rattle.seam.proofs.Walks.{stopped, goes_on_lem}
 
 module _ (next : ℕ → Option ℕ) (n : ℕ) (steps : Steps next n) where
   pub reach_stops : (at : ℕ) → next at ≡ none → reach next n at ≡ reached at 0
@@ -25,8 +25,12 @@ module _ (next : ℕ → Option ℕ) (n : ℕ) (steps : Steps next n) where
 pub at_start : (r : Reached) → r ≡ reached r.place (0 + r.records)
 at_start r = ap (reached r.place) (omega arith)
 
+inside_by : (a b : Bool) → (a || b) ≡ false → b ≡ false
+inside_by true b e = absurd (true≢false e)
+inside_by false b e = e
+
 pub place_inside : (n place : ℕ) → (ltb place header_size || ltb n place) ≡ false → place ≤ n
-place_inside n place e = ltb-false n place (neither (ltb place header_size) (ltb n place) e).1
+place_inside n place e = ltb-false n place (inside_by (ltb place header_size) (ltb n place) e)
 
 module _ (next : ℕ → Option ℕ) (n place : ℕ) where
   pub too_long : trace_limit < n → seam_refused 1 ≡ seam_from next n place

@@ -1,7 +1,7 @@
 // Opening a trace as a cursor, and the check that valid records follow one another from a place to the last byte: cursor.rs.
 ghost use Rattle.std.specs.Prelude.{◌≡◌};
 ghost use Rattle.record.specs.Record.{plausible};
-ghost use Rattle.seam.specs.Opening.{opening_of, told_cursor};
+ghost use Rattle.seam.specs.Opening.{opening_of, told_opening};
 ghost use Rattle.seam.specs.Seam.{seam_at, told_seam};
 
 use layout::{TRACE_LIMIT, ZLF_HEADER_SIZE};
@@ -27,40 +27,9 @@ pub enum Seam {
     PlaceOutside,
 }
 
-impl Opening {
-    // 01's number of the refusal, 0 where it is none.
-    pub fn refusal(self) -> u32
-        ensures { result ≡ (told_cursor self).refusal }
-    {
-        match self {
-            Opening::Opened { version: _ } => 0,
-            Opening::TraceTooLong => 1,
-            Opening::TraceTooShort => 2,
-            Opening::OtherVersion { version: _ } => 4,
-        }
-    }
-}
-
-impl Seam {
-    // 01's number of the refusal, 0 where it is none.
-    pub fn refusal(self) -> u32
-        ensures { result ≡ (told_seam self).refusal }
-    {
-        match self {
-            Seam::Unbroken { records: _ } => 0,
-            Seam::Broken {
-                place: _,
-                records: _,
-            } => 0,
-            Seam::TraceTooLong => 1,
-            Seam::PlaceOutside => 6,
-        }
-    }
-}
-
 // Opens a trace: only the version is checked, against the one expected.
 pub fn open(s: &[u8], version: u32) -> Opening
-    ensures { told_cursor result ≡ opening_of s.now version }
+    ensures { told_opening result ≡ opening_of s.now version }
 {
     if TRACE_LIMIT < s.len() {
         return Opening::TraceTooLong;

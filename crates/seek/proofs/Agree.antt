@@ -16,7 +16,7 @@ use Rattle.span.proofs.Meets.{Meets, meets, not_refused, ends_after}
 use Rattle.seek.proofs.Walks as Walks
 use Rattle.span.specs.Met.{Trace, meet, first_met}
 use Rattle.seek.specs.Seek.{middle, next_lo, next_hi, Bracket, narrowed, walked, seek_told, bracket, seek_of}
-use Rattle.seek.specs.Step.{told_state, start_told, start_at, more, scan, seek_done, seek_step_of, seek_step_at, Driven, ends, goes_on, scans}
+use Rattle.seek.specs.Step.{told_state, start_told, start_at, more, scan, done, step_of, step_at, Driven, ends, goes_on, scans}
 use Rattle.seek.specs.declared.SeekState.{SeekState}
 use Rattle.seek.specs.declared.SeekState.TheVariants.{Searching, Scanning}
 
@@ -37,34 +37,34 @@ module _ (t : Trace) (steps : Steps t.next t.size) (fits : t.size ≤ trace_limi
   ms = meets t steps
 
   -- the answers of a step from inside the trace, none of which is a refusal
-  step_narrow : (lo hi : ℕ) → hi - lo ≤ 65536 → seek_step_at t target (Searching lo hi) ≡ scan (Scanning lo)
-  unfolding seek_step_of
+  step_narrow : (lo hi : ℕ) → hi - lo ≤ 65536 → step_at t target (Searching lo hi) ≡ scan (Scanning lo)
+  unfolding step_of
   step_narrow lo hi h = sym (step_fits t fits target (Searching lo hi)) ∙ simp (le-ltb 65536 (hi - lo) h)
 
   step_halving :
       (lo hi : ℕ) → hi ≤ n → 65536 < hi - lo
-      → seek_step_at t target (Searching lo hi) ≡ more (Searching (next_lo target lo (meet t (middle lo hi))) (next_hi target (middle lo hi) hi (meet t (middle lo hi))))
-  unfolding seek_step_of
+      → step_at t target (Searching lo hi) ≡ more (Searching (next_lo target lo (meet t (middle lo hi))) (next_hi target (middle lo hi) hi (meet t (middle lo hi))))
+  unfolding step_of
   step_halving lo hi within h =
       let inside : middle lo hi ≤ n = omega arith in
       sym (step_fits t fits target (Searching lo hi))
       ∙ simp (lt-ltb 65536 (hi - lo) h, not_refused t fits (middle lo hi) inside)
 
-  step_past : (at : ℕ) → n ≤ at → seek_step_at t target (Scanning at) ≡ seek_done none
-  unfolding seek_step_of
+  step_past : (at : ℕ) → n ≤ at → step_at t target (Scanning at) ≡ done none
+  unfolding step_of
   step_past at past = sym (step_fits t fits target (Scanning at)) ∙ simp (le-ltb at n past)
 
   module _ (at : ℕ) (h : at < n) where
-    step_none : (meet t at).is_found ≡ false → seek_step_at t target (Scanning at) ≡ seek_done none
-    unfolding seek_step_of
+    step_none : (meet t at).is_found ≡ false → step_at t target (Scanning at) ≡ done none
+    unfolding step_of
     step_none is = sym (step_fits t fits target (Scanning at)) ∙ simp (lt-ltb at n h, not_refused t fits at (omega arith), is)
 
-    step_passed : (meet t at).is_found ≡ true → lt_z (meet t at).millis target ≡ true → seek_step_at t target (Scanning at) ≡ more (Scanning (meet t at).end)
-    unfolding seek_step_of
+    step_passed : (meet t at).is_found ≡ true → lt_z (meet t at).millis target ≡ true → step_at t target (Scanning at) ≡ more (Scanning (meet t at).end)
+    unfolding step_of
     step_passed is e = sym (step_fits t fits target (Scanning at)) ∙ simp (lt-ltb at n h, not_refused t fits at (omega arith), is, e)
 
-    step_found : (meet t at).is_found ≡ true → lt_z (meet t at).millis target ≡ false → seek_step_at t target (Scanning at) ≡ seek_done (some (meet t at).offset)
-    unfolding seek_step_of
+    step_found : (meet t at).is_found ≡ true → lt_z (meet t at).millis target ≡ false → step_at t target (Scanning at) ≡ done (some (meet t at).offset)
+    unfolding step_of
     step_found is e = sym (step_fits t fits target (Scanning at)) ∙ simp (lt-ltb at n h, not_refused t fits at (omega arith), is, e)
 
   same_answer : (state : SeekState) {a b : Option ℕ} → b ≡ a → Driven t target state a 0 → Driven t target state b 0
@@ -77,15 +77,15 @@ module _ (t : Trace) (steps : Steps t.next t.size) (fits : t.size ≤ trace_limi
   scan_by :
       (k at : ℕ) → n - at ≤ suc k → Dec (at < n) → (b e : Bool) → (meet t at).is_found ≡ b → lt_z (meet t at).millis target ≡ e
       → ((i : ℕ) → n - i ≤ k → Driven t target (Scanning i) (walk k i) 0) → Driven t target (Scanning at) (walk (suc k) at) 0
-  scan_by k at enough (no h) b e is q ih = ends (step_past at (omega arith) ∙ ap seek_done (sym (Walks.at_end (meet t) n ms target (suc k) at (omega arith))))
-  scan_by k at enough (yes h) false e is q ih = ends (step_none at h is ∙ ap seek_done (sym (Walks.none_met_at (meet t) n ms target (suc k) at is)))
-  scan_by k at enough (yes h) true false is q ih = ends (step_found at h is q ∙ ap seek_done (sym (Walks.not_earlier (meet t) n ms target k at h is q)))
+  scan_by k at enough (no h) b e is q ih = ends (step_past at (omega arith) ∙ ap done (sym (Walks.at_end (meet t) n ms target (suc k) at (omega arith))))
+  scan_by k at enough (yes h) false e is q ih = ends (step_none at h is ∙ ap done (sym (Walks.none_met_at (meet t) n ms target (suc k) at is)))
+  scan_by k at enough (yes h) true false is q ih = ends (step_found at h is q ∙ ap done (sym (Walks.not_earlier (meet t) n ms target k at h is q)))
   scan_by k at enough (yes h) true true is q ih =
       same_answer (Scanning at) (Walks.step (meet t) n ms target k at h is q)
       (goes_on (step_passed at h is q) (ih (meet t at).end (omega (arith, ends_after (meet t) n ms at is))))
 
   pub scan_driven : (k at : ℕ) → n - at ≤ k → Driven t target (Scanning at) (walk k at) 0
-  scan_driven zero at enough = ends (step_past at (omega arith) ∙ ap seek_done (sym (Walks.at_end (meet t) n ms target zero at (omega arith))))
+  scan_driven zero at enough = ends (step_past at (omega arith) ∙ ap done (sym (Walks.at_end (meet t) n ms target zero at (omega arith))))
   scan_driven (suc k) at enough = scan_by k at enough (dec_lt at n) (meet t at).is_found (lt_z (meet t at).millis target) refl refl (scan_driven k)
 
   abbrev narrow : ℕ → ℕ → ℕ → Bracket

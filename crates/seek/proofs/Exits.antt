@@ -11,7 +11,7 @@ use Rattle.layout.specs.Layout.{header_size, trace_limit}
 use Rattle.span.proofs.Meets.{met_at}
 use Rattle.span.specs.Met.{Trace, MetTold, meet, not_met, first_met, FirstTold, first_told, first_of}
 use Rattle.seek.specs.Seek.{next_lo, next_hi, Bracket, narrowed, walked, SeekTold, seek_told, no_seek, seek_of}
-use Rattle.seek.specs.Step.{told_state, no_state, StartTold, start_told, start_at, SeekStepTold, refused, more, scan, seek_done, unless, seek_step_of, seek_step_at}
+use Rattle.seek.specs.Step.{told_state, no_state, StartTold, start_told, start_at, StepTold, refused, more, scan, done, unless, step_of, step_at}
 use Rattle.seek.specs.declared.SeekState.{SeekState}
 use Rattle.seek.specs.declared.SeekState.TheVariants.{Searching, Scanning}
 
@@ -26,12 +26,12 @@ module _ (target : ℤ) (lo mid hi : ℕ) (m : MetTold) where
   is_met b o end time e q = rw e (simp q (refl, refl))
 
 -- refusal 1 of a step, which is judged first
-pub step_long : (t : Trace) → trace_limit < t.size → (target : ℤ) (state : SeekState) → refused 1 ≡ seek_step_at t target state
-unfolding seek_step_at
+pub step_long : (t : Trace) → trace_limit < t.size → (target : ℤ) (state : SeekState) → refused 1 ≡ step_at t target state
+unfolding step_at
 step_long t long target state = simp (lt-ltb trace_limit t.size long)
 
-pub step_fits : (t : Trace) → t.size ≤ trace_limit → (target : ℤ) (state : SeekState) → seek_step_of (meet t) t.size target state ≡ seek_step_at t target state
-unfolding seek_step_at
+pub step_fits : (t : Trace) → t.size ≤ trace_limit → (target : ℤ) (state : SeekState) → step_of (meet t) t.size target state ≡ step_at t target state
+unfolding step_at
 step_fits t fits target state = simp (le-ltb trace_limit t.size fits)
 
 -- where a stepped seek starts, by what asking for the first record answers
@@ -77,47 +77,47 @@ module _ (t : Trace) (target : ℤ) where
   seek_is f e = ap seeks_from e ∙ seek_by (first_met t) (ltb trace_limit t.size)
 
   -- in the code's numbers: where the halvings leave lo, how many there are, and what the walk from there answers
-  pub seek_done_lem :
+  pub seek_done :
       (first : ℕ) → first_told 0 true first ≡ first_of t → (lo h : ℕ) → lo ≡ (halvings_from first).lo → h ≡ (halvings_from first).halvings
       → (o : Option ℕ) → o ≡ walk_from lo → seek_told h o ≡ seek_of t target
-  seek_done_lem first e lo h lo_is h_is o o_is =
+  seek_done first e lo h lo_is h_is o o_is =
       ap (λ (k : ℕ). seek_told k o) h_is
       ∙ ap (seek_told (halvings_from first).halvings) (o_is ∙ ap walk_from lo_is)
       ∙ seek_is (first_told 0 true first) e
 
-unless_none : (m : MetTold) (step : SeekStepTold) → m.refusal ≡ 0 → unless m step ≡ step
+unless_none : (m : MetTold) (step : StepTold) → m.refusal ≡ 0 → unless m step ≡ step
 unless_none m step e = simp (eq-eqb m.refusal 0 e)
 
 -- the steps
 module _ (met : ℕ → MetTold) (n : ℕ) (target : ℤ) where
   module _ (lo hi span : ℕ) (span_is : span ≡ hi - lo) where
-    pub narrow_enough : span ≤ 65536 → scan (Scanning lo) ≡ seek_step_of met n target (Searching lo hi)
-    unfolding seek_step_of
+    pub narrow_enough : span ≤ 65536 → scan (Scanning lo) ≡ step_of met n target (Searching lo hi)
+    unfolding step_of
     narrow_enough h = simp (le-ltb 65536 (hi - lo) (rw span_is at h))
 
     pub halving :
         65536 < span → (m : MetTold) → m ≡ met (lo + span / 2)
-        → unless m (more (Searching (next_lo target lo m) (next_hi target (lo + span / 2) hi m))) ≡ seek_step_of met n target (Searching lo hi)
-    unfolding seek_step_of
+        → unless m (more (Searching (next_lo target lo m) (next_hi target (lo + span / 2) hi m))) ≡ step_of met n target (Searching lo hi)
+    unfolding step_of
     halving h m m_is = rw (m_is, span_is) (simp (lt-ltb 65536 (hi - lo) (rw span_is at h)))
 
     pub halving_more :
         65536 < span → (m : MetTold) → m ≡ met (lo + span / 2) → m.refusal ≡ 0 → (a b : ℕ) → a ≡ next_lo target lo m → b ≡ next_hi target (lo + span / 2) hi m
-        → more (Searching a b) ≡ seek_step_of met n target (Searching lo hi)
+        → more (Searching a b) ≡ step_of met n target (Searching lo hi)
     halving_more h m m_is r a b a_is b-is =
         rw (a_is, b-is) (sym (unless_none m (more (Searching (next_lo target lo m) (next_hi target (lo + span / 2) hi m))) r) ∙ halving h m m_is)
 
   module _ (at : ℕ) where
-    pub scan_past : n ≤ at → seek_done none ≡ seek_step_of met n target (Scanning at)
-    unfolding seek_step_of
+    pub scan_past : n ≤ at → done none ≡ step_of met n target (Scanning at)
+    unfolding step_of
     scan_past h = simp (le-ltb at n h)
 
-    pub scan_not : at < n → (k : ℕ) → not_met k ≡ met at → cond (eqb k 0) (seek_done none) (refused k) ≡ seek_step_of met n target (Scanning at)
-    unfolding seek_step_of
+    pub scan_not : at < n → (k : ℕ) → not_met k ≡ met at → cond (eqb k 0) (done none) (refused k) ≡ step_of met n target (Scanning at)
+    unfolding step_of
     scan_not h k e = simp (lt-ltb at n h, sym e)
 
     pub scan_met :
         at < n → (o end : ℕ) (time : ℤ) → met_at o end time ≡ met at → (b : Bool) → lt_z time target ≡ b
-        → cond b (more (Scanning end)) (seek_done (some o)) ≡ seek_step_of met n target (Scanning at)
-    unfolding seek_step_of
+        → cond b (more (Scanning end)) (done (some o)) ≡ step_of met n target (Scanning at)
+    unfolding step_of
     scan_met h o end time e b q = simp (lt-ltb at n h, sym e, q)

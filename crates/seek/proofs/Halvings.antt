@@ -3,16 +3,16 @@ use Prim.Native.Nat.{ℕ, zero, suc, ◌+◌, ◌-◌, ◌/◌, ◌≤◌, ◌<�
 use borrow.Author.Tests.{lt-ltb, le-ltb}
 use lib.IntN.{ℤ}
 use lib.Signed.{lt_z}
-use mathlib.Core.Bool.{Bool, true, false, cond}
+use mathlib.Core.Bool.{Bool, true, false, cond, ◌&&◌}
 use mathlib.Core.Path.{◌≡◌, refl, sym, ap, ◌∙◌}
 use native.Mathlib.Decide.{dec_lt}
 use native.Mathlib.Omega.{arith}
 use Rattle.layout.specs.Layout.{trace_limit}
 use Rattle.span.proofs.Steady.{steady}
 use Rattle.span.proofs.Meets.{Meets, ends_after}
-use Rattle.lemmas.proofs.Choice.{left_true}
+use Rattle.choice.proofs.Choice.{left_true}
 use Rattle.span.specs.Met.{MetTold}
-use Rattle.seek.specs.Seek.{wide, middle, earlier, next_lo, next_hi, Bracket, halved_none, halved_once, narrowed}
+use Rattle.seek.specs.Seek.{wide, middle, earlier, next_lo, next_hi, Bracket, halved_none, counted, narrowed}
 
 -- an earlier record is a record
 pub earlier_found : (target : ℤ) (m : MetTold) → earlier target m ≡ true → m.is_found ≡ true
@@ -27,7 +27,7 @@ doubled (suc k) = doubled k + doubled k
 abbrev pub plus : ℕ → Bracket → Bracket
 plus h b = record { lo = b.lo; hi = b.hi; halvings = h + b.halvings }
 
-plus_counted : (h : ℕ) (b : Bracket) → plus h (halved_once b) ≡ plus (h + 1) b
+plus_counted : (h : ℕ) (b : Bracket) → plus h (counted b) ≡ plus (h + 1) b
 plus_counted h b =
     let same : h + (b.halvings + 1) ≡ h + 1 + b.halvings = omega arith in
     ap (λ (k : ℕ). record { lo = b.lo; hi = b.hi; halvings = k }) same
@@ -78,7 +78,7 @@ module _ (met : ℕ → MetTold) (n : ℕ) (ms : Meets met n) (target : ℤ) whe
   short (suc k) lo hi h = rw (le-ltb 65536 (hi - lo) h)
 
   -- one halving, and the rest
-  pub step : (k lo hi : ℕ) → 65536 < hi - lo → narrow (suc k) lo hi ≡ halved_once (narrow k (lo' lo hi) (hi' lo hi))
+  pub step : (k lo hi : ℕ) → 65536 < hi - lo → narrow (suc k) lo hi ≡ counted (narrow k (lo' lo hi) (hi' lo hi))
   unfolding narrowed
   step k lo hi h = rw (lt-ltb 65536 (hi - lo) h)
 
@@ -86,7 +86,7 @@ module _ (met : ℕ → MetTold) (n : ℕ) (ms : Meets met n) (target : ℤ) whe
   same_by zero lo hi enough d = short zero lo hi (omega arith) ∙ sym (short (suc zero) lo hi (omega arith))
   same_by (suc k) lo hi enough (yes h) =
       step k lo hi h
-      ∙ ap halved_once (same_by k (lo' lo hi) (hi' lo hi) (omega (arith, halves lo hi h)) (dec_lt 65536 (hi' lo hi - lo' lo hi)))
+      ∙ ap counted (same_by k (lo' lo hi) (hi' lo hi) (omega (arith, halves lo hi h)) (dec_lt 65536 (hi' lo hi - lo' lo hi)))
       ∙ sym (step (suc k) lo hi h)
   same_by (suc k) lo hi enough (no h) = short (suc k) lo hi (omega arith) ∙ sym (short (suc (suc k)) lo hi (omega arith))
 
@@ -95,11 +95,11 @@ module _ (met : ℕ → MetTold) (n : ℕ) (ms : Meets met n) (target : ℤ) whe
   more_steps lo hi = steady (λ (k : ℕ). narrow k lo hi) (hi - lo) (λ k enough. same_by k lo hi enough (dec_lt 65536 (hi - lo)))
 
   -- one halving, counted by as many steps
-  pub one_halving : (k lo hi : ℕ) → hi - lo ≤ k → 65536 < hi - lo → narrow k lo hi ≡ halved_once (narrow k (lo' lo hi) (hi' lo hi))
+  pub one_halving : (k lo hi : ℕ) → hi - lo ≤ k → 65536 < hi - lo → narrow k lo hi ≡ counted (narrow k (lo' lo hi) (hi' lo hi))
   one_halving zero lo hi enough h = absurd (omega arith)
   one_halving (suc k) lo hi enough h =
       step k lo hi h
-      ∙ ap halved_once (same_by k (lo' lo hi) (hi' lo hi) (omega (arith, halves lo hi h)) (dec_lt 65536 (hi' lo hi - lo' lo hi)))
+      ∙ ap counted (same_by k (lo' lo hi) (hi' lo hi) (omega (arith, halves lo hi h)) (dec_lt 65536 (hi' lo hi - lo' lo hi)))
 
   -- in the code's numbers: h halvings made, and what is left
   module _ (k first len lo hi h : ℕ) (so_far : narrow k first len ≡ plus h (narrow k lo hi)) where

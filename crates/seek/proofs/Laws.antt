@@ -22,7 +22,7 @@ use Rattle.span.proofs.Meets.{MetAt, met_at_lem, meets}
 use Rattle.seek.proofs.Walks.{Answer, found_met}
 use Rattle.span.specs.Met.{Trace, trace_of, MetTold, meet, first_met}
 use Rattle.seek.specs.Seek.{wide, middle, earlier, next_lo, next_hi, walked, SeekTold, seek_told, no_seek, bracket, seek_of}
-use Rattle.seek.specs.Step.{told_state, start_told, start_at, SeekStepTold, refused, more, scan, seek_done, seek_step_of, seek_step_at}
+use Rattle.seek.specs.Step.{told_state, start_told, start_at, StepTold, refused, more, scan, done, step_of, step_at}
 use Rattle.seek.specs.declared.SeekState.{SeekState}
 use Rattle.seek.specs.declared.SeekState.TheVariants.{Searching, Scanning}
 
@@ -42,25 +42,25 @@ module _ (t : Trace) (target : ℤ) where
   -- a step that is done with a record
   scan_by :
       (a b d : Bool) (m : MetTold) (c : Bool) (r : ℕ)
-      → cond a (cond b (cond c (cond d (more (Scanning m.end)) (seek_done (some m.offset))) (seek_done none)) (refused m.refusal)) (seek_done none) ≡ seek_done (some r)
+      → cond a (cond b (cond c (cond d (more (Scanning m.end)) (done (some m.offset))) (done none)) (refused m.refusal)) (done none) ≡ done (some r)
       → (c ≡ true) × ((d ≡ false) × (m.offset ≡ r))
-  scan_by false b d m c r e = absurd (false≢true (ap (λ (x : SeekStepTold). x.is_found) e))
-  scan_by true false d m c r e = absurd (false≢true (ap (λ (x : SeekStepTold). x.is_found) e))
-  scan_by true true d m false r e = absurd (false≢true (ap (λ (x : SeekStepTold). x.is_found) e))
-  scan_by true true true m true r e = absurd (false≢true (ap (λ (x : SeekStepTold). x.is_found) e))
-  scan_by true true false m true r e = (refl, (refl, ap (λ (x : SeekStepTold). x.offset) e))
+  scan_by false b d m c r e = absurd (false≢true (ap (λ (x : StepTold). x.is_found) e))
+  scan_by true false d m c r e = absurd (false≢true (ap (λ (x : StepTold). x.is_found) e))
+  scan_by true true d m false r e = absurd (false≢true (ap (λ (x : StepTold). x.is_found) e))
+  scan_by true true true m true r e = absurd (false≢true (ap (λ (x : StepTold). x.is_found) e))
+  scan_by true true false m true r e = (refl, (refl, ap (λ (x : StepTold). x.offset) e))
 
-  search_by : (a b : Bool) (k lo : ℕ) (next : SeekState) (r : ℕ) → cond a (cond b (more next) (refused k)) (scan (Scanning lo)) ≡ seek_done (some r) → NotEarlier t target r
-  search_by false b k lo next r e = absurd (false≢true (ap (λ (x : SeekStepTold). x.is_found) e))
-  search_by true false k lo next r e = absurd (false≢true (ap (λ (x : SeekStepTold). x.is_found) e))
-  search_by true true k lo next r e = absurd (false≢true (ap (λ (x : SeekStepTold). x.is_found) e))
+  search_by : (a b : Bool) (k lo : ℕ) (next : SeekState) (r : ℕ) → cond a (cond b (more next) (refused k)) (scan (Scanning lo)) ≡ done (some r) → NotEarlier t target r
+  search_by false b k lo next r e = absurd (false≢true (ap (λ (x : StepTold). x.is_found) e))
+  search_by true false k lo next r e = absurd (false≢true (ap (λ (x : StepTold). x.is_found) e))
+  search_by true true k lo next r e = absurd (false≢true (ap (λ (x : StepTold). x.is_found) e))
 
-  step_by : (a : Bool) (step : SeekStepTold) (r : ℕ) → cond a (refused 1) step ≡ seek_done (some r) → step ≡ seek_done (some r)
-  step_by true step r e = absurd (false≢true (ap (λ (x : SeekStepTold). x.is_found) e))
+  step_by : (a : Bool) (step : StepTold) (r : ℕ) → cond a (refused 1) step ≡ done (some r) → step ≡ done (some r)
+  step_by true step r e = absurd (false≢true (ap (λ (x : StepTold). x.is_found) e))
   step_by false step r e = e
 
-  of_step : (state : SeekState) (r : ℕ) → seek_step_of (meet t) t.size target state ≡ seek_done (some r) → NotEarlier t target r
-  unfolding seek_step_of
+  of_step : (state : SeekState) (r : ℕ) → step_of (meet t) t.size target state ≡ done (some r) → NotEarlier t target r
+  unfolding step_of
   of_step (Searching lo hi) r e =
       let m : MetTold = meet t (middle lo hi) in
       search_by (wide lo hi) (eqb m.refusal 0) m.refusal lo (Searching (next_lo target lo m) (next_hi target (middle lo hi) hi m)) r e
@@ -68,18 +68,18 @@ module _ (t : Trace) (target : ℤ) where
       let m : _ = scan_by (ltb at t.size) (eqb (meet t at).refusal 0) (earlier target (meet t at)) (meet t at) (meet t at).is_found r e in
       met_right at r m.0 m.1.1 (rw m.0 at m.1.0)
 
-  pub step_right : (state : SeekState) (r : ℕ) → seek_step_at t target state ≡ seek_done (some r) → NotEarlier t target r
-  unfolding seek_step_at
-  step_right state r e = of_step state r (step_by (ltb trace_limit t.size) (seek_step_of (meet t) t.size target state) r e)
+  pub step_right : (state : SeekState) (r : ℕ) → step_at t target state ≡ done (some r) → NotEarlier t target r
+  unfolding step_at
+  step_right state r e = of_step state r (step_by (ltb trace_limit t.size) (step_of (meet t) t.size target state) r e)
 
 -- what 01 says of the steps that make no search, and of a trace without a first record
 module _ (t : Trace) (fits : t.size ≤ trace_limit) (target : ℤ) where
   -- "Crossed bounds (lo above hi) overflow in the Rust; the port scans from lo": of any numbers, and no refusal
-  pub crossed_scan : (lo hi : ℕ) → hi < lo → seek_step_at t target (Searching lo hi) ≡ scan (Scanning lo)
+  pub crossed_scan : (lo hi : ℕ) → hi < lo → step_at t target (Searching lo hi) ≡ scan (Scanning lo)
   crossed_scan lo hi h =
       sym (step_fits t fits target (Searching lo hi)) ∙ sym (narrow_enough (meet t) t.size target lo hi (hi - lo) refl (omega arith))
 
-  pub past_done : (at : ℕ) → t.size ≤ at → seek_step_at t target (Scanning at) ≡ seek_done none
+  pub past_done : (at : ℕ) → t.size ≤ at → step_at t target (Scanning at) ≡ done none
   past_done at h = sym (step_fits t fits target (Scanning at)) ∙ sym (scan_past (meet t) t.size target at h)
 
   -- "Without one the whole seek gives none and 0 halvings; the stepped one starts lo at 2,048"

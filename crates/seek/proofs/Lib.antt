@@ -6,4 +6,3 @@ pub mod Only
 pub mod Agree
 pub mod Driven
 pub mod Laws
-pub mod Refusals

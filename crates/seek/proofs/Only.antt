@@ -2,9 +2,9 @@
 use lib.Dec.{eqb}
 use mathlib.Core.Bool.{cond}
 use mathlib.Core.Path.{◌≡◌, refl, ap}
-use Rattle.lemmas.proofs.Only.{only}
+use Rattle.choice.proofs.Only.{only}
 use Rattle.seek.specs.Seek.{SeekTold, told_seek}
-use Rattle.seek.specs.Step.{StateTold, told_state, StartTold, told_start, SeekStepTold, told_seek_step}
+use Rattle.seek.specs.Step.{StateTold, told_state, StartTold, told_start, StepTold, told_step}
 use Rattle.seek.specs.declared.Found.{Found}
 use Rattle.seek.specs.declared.Found.TheVariants as Found
 use Rattle.seek.specs.declared.SeekTime.{SeekTime}
@@ -51,7 +51,7 @@ same_start Start.TraceTooLong = refl
 pub only_start : (a b : SeekStart) → told_start a ≡ told_start b → a ≡ b
 only_start = only told_start back_start same_start
 
-back_step : SeekStepTold → SeekStep
+back_step : StepTold → SeekStep
 back_step t =
     cond (eqb t.refusal 1) Step.TraceTooLong
     (cond (eqb t.refusal 5) Step.WindowTooLong
@@ -59,7 +59,7 @@ back_step t =
     (cond (eqb t.answer 2) (Step.Scan (back_state t.state))
     (Step.Done (cond t.is_found (Found.At t.offset) Found.Nothing)))))
 
-same_step : (r : SeekStep) → back_step (told_seek_step r) ≡ r
+same_step : (r : SeekStep) → back_step (told_step r) ≡ r
 unfolding back_step
 same_step (Step.More st) = ap (λ (x : SeekState). Step.More x) (same_state st)
 same_step (Step.Scan st) = ap (λ (x : SeekState). Step.Scan x) (same_state st)
@@ -68,5 +68,5 @@ same_step (Step.Done Found.Nothing) = refl
 same_step Step.TraceTooLong = refl
 same_step Step.WindowTooLong = refl
 
-pub only_step : (a b : SeekStep) → told_seek_step a ≡ told_seek_step b → a ≡ b
-only_step = only told_seek_step back_step same_step
+pub only_step : (a b : SeekStep) → told_step a ≡ told_step b → a ≡ b
+only_step = only told_step back_step same_step

@@ -37,8 +37,8 @@ pub record Bracket : Type 0 where
 abbrev pub halved_none : ℕ → ℕ → Bracket
 halved_none lo hi = record { lo = lo; hi = hi; halvings = 0 }
 
-abbrev pub halved_once : Bracket → Bracket
-halved_once b = record { lo = b.lo; hi = b.hi; halvings = b.halvings + 1 }
+abbrev pub counted : Bracket → Bracket
+counted b = record { lo = b.lo; hi = b.hi; halvings = b.halvings + 1 }
 
 -- the halvings. The steps are counted, and each takes at least one byte off hi - lo: as many steps as hi - lo has bytes are enough, and more
 -- change nothing (`more_steps` of proofs/Halvings.antt)
@@ -46,7 +46,7 @@ unfoldable pub narrowed : (ℕ → MetTold) → ℤ → ℕ → ℕ → ℕ → 
 narrowed met target zero lo hi = halved_none lo hi
 narrowed met target (suc k) lo hi =
     cond (wide lo hi)
-    (halved_once (narrowed met target k (next_lo target lo (met (middle lo hi))) (next_hi target (middle lo hi) hi (met (middle lo hi)))))
+    (counted (narrowed met target k (next_lo target lo (met (middle lo hi))) (next_hi target (middle lo hi) hi (met (middle lo hi)))))
     (halved_none lo hi)
 
 -- what the code keeps of them

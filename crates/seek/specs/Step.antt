@@ -46,55 +46,55 @@ told_start Start.TraceTooLong = start_told 1 no_state
 
 -- 01: "A step answers more, scan or done, and the first two carry the state to pass back": the refusal's number or 0, the answer
 -- (1 more, 2 scan, 3 done), the state, and of done whether a record was found and its place
-pub record SeekStepTold : Type 0 where
+pub record StepTold : Type 0 where
   pub refusal : ℕ
   pub answer : ℕ
   pub state : StateTold
   pub is_found : Bool
   pub offset : ℕ
 
-abbrev pub refused : ℕ → SeekStepTold
+abbrev pub refused : ℕ → StepTold
 refused n = record { refusal = n; answer = 0; state = no_state; is_found = false; offset = 0 }
 
-abbrev pub more : SeekState → SeekStepTold
+abbrev pub more : SeekState → StepTold
 more state = record { refusal = 0; answer = 1; state = told_state state; is_found = false; offset = 0 }
 
-abbrev pub scan : SeekState → SeekStepTold
+abbrev pub scan : SeekState → StepTold
 scan state = record { refusal = 0; answer = 2; state = told_state state; is_found = false; offset = 0 }
 
-abbrev pub seek_done : Option ℕ → SeekStepTold
-seek_done none = record { refusal = 0; answer = 3; state = no_state; is_found = false; offset = 0 }
-seek_done (some offset) = record { refusal = 0; answer = 3; state = no_state; is_found = true; offset = offset }
+abbrev pub done : Option ℕ → StepTold
+done none = record { refusal = 0; answer = 3; state = no_state; is_found = false; offset = 0 }
+done (some offset) = record { refusal = 0; answer = 3; state = no_state; is_found = true; offset = offset }
 
 -- refusal 5, "judged only where a search is made": a step goes on from what its search met
-abbrev pub unless : MetTold → SeekStepTold → SeekStepTold
+abbrev pub unless : MetTold → StepTold → StepTold
 unless m step = cond (eqb m.refusal 0) step (refused m.refusal)
 
 -- a step, of the whole seek's parts: one halving, or one record of the walk
-unfoldable pub seek_step_of : (ℕ → MetTold) → ℕ → ℤ → SeekState → SeekStepTold
-seek_step_of met n target (Searching lo hi) =
+unfoldable pub step_of : (ℕ → MetTold) → ℕ → ℤ → SeekState → StepTold
+step_of met n target (Searching lo hi) =
     cond (wide lo hi)
     (unless (met (middle lo hi)) (more (Searching (next_lo target lo (met (middle lo hi))) (next_hi target (middle lo hi) hi (met (middle lo hi))))))
     (scan (Scanning lo))
-seek_step_of met n target (Scanning at) =
+step_of met n target (Scanning at) =
     cond (ltb at n)
     (unless (met at)
     (cond (met at).is_found
-    (cond (earlier target (met at)) (more (Scanning (met at).end)) (seek_done (some (met at).offset)))
-    (seek_done none)))
-    (seek_done none)
+    (cond (earlier target (met at)) (more (Scanning (met at).end)) (done (some (met at).offset)))
+    (done none)))
+    (done none)
 
 -- refusal 1: "the trace is over 1,073,741,824 bytes (all calls on a trace)"
-unfoldable pub seek_step_at : Trace → ℤ → SeekState → SeekStepTold
-seek_step_at t target state = cond (ltb trace_limit t.size) (refused 1) (seek_step_of (meet t) t.size target state)
+unfoldable pub step_at : Trace → ℤ → SeekState → StepTold
+step_at t target state = cond (ltb trace_limit t.size) (refused 1) (step_of (meet t) t.size target state)
 
 -- each answer in the paper's numbers
-abbrev pub told_seek_step : SeekStep → SeekStepTold
-told_seek_step (Step.More state) = more state
-told_seek_step (Step.Scan state) = scan state
-told_seek_step (Step.Done found) = seek_done (told_found found)
-told_seek_step Step.TraceTooLong = refused 1
-told_seek_step Step.WindowTooLong = refused 5
+abbrev pub told_step : SeekStep → StepTold
+told_step (Step.More state) = more state
+told_step (Step.Scan state) = scan state
+told_step (Step.Done found) = done (told_found found)
+told_step Step.TraceTooLong = refused 1
+told_step Step.WindowTooLong = refused 5
 
 -- a step that answers more is a halving where it was searching
 abbrev pub halving_of : SeekState → ℕ
@@ -104,10 +104,10 @@ halving_of (Scanning at) = 0
 -- the stepped seek, driven from a state to its end: steps, each from the state that the last one carried, up to the one that is done;
 -- what that one found, and how many of them were halvings
 pub data Driven (t : Trace) (target : ℤ) : SeekState → Option ℕ → ℕ → Type 0 where
-  ends : {state : SeekState} {found : Option ℕ} → seek_step_at t target state ≡ seek_done found → Driven t target state found 0
+  ends : {state : SeekState} {found : Option ℕ} → step_at t target state ≡ done found → Driven t target state found 0
   goes_on :
-      {state next : SeekState} {found : Option ℕ} {halvings : ℕ} → seek_step_at t target state ≡ more next
+      {state next : SeekState} {found : Option ℕ} {halvings : ℕ} → step_at t target state ≡ more next
       → Driven t target next found halvings → Driven t target state found (halvings + halving_of state)
   scans :
-      {state next : SeekState} {found : Option ℕ} {halvings : ℕ} → seek_step_at t target state ≡ scan next
+      {state next : SeekState} {found : Option ℕ} {halvings : ℕ} → step_at t target state ≡ scan next
       → Driven t target next found halvings → Driven t target state found halvings

@@ -8,7 +8,7 @@ ghost use Rattle.std.specs.Int.Signed.{lt_z};
 ghost use Rattle.record.specs.Record.{plausible};
 ghost use Rattle.span.specs.Met.{trace_of, meet_in, told_met};
 ghost use Rattle.seek.specs.Seek.{next_lo, next_hi, narrowed, Keeps, walked, seek_of, told_found, told_seek};
-ghost use Rattle.seek.specs.Step.{start_at, told_start, seek_step_of, seek_step_at, told_seek_step};
+ghost use Rattle.seek.specs.Step.{start_at, told_start, step_of, step_at, told_step};
 
 use layout::{TRACE_LIMIT, ZLF_HEADER_SIZE};
 use span::{FirstRecord, Met};
@@ -59,49 +59,6 @@ pub enum SeekTime {
     TraceTooLong,
 }
 
-impl SeekStart {
-    // 01's number of the refusal, 0 where it is none.
-    pub fn refusal(self) -> u32
-        ensures { result ≡ (told_start self).refusal }
-    {
-        match self {
-            SeekStart::From { state: _ } => 0,
-            SeekStart::TraceTooLong => 1,
-        }
-    }
-}
-
-impl SeekStep {
-    // 01's number of the refusal, 0 where it is none.
-    pub fn refusal(self) -> u32
-        ensures { result ≡ (told_seek_step self).refusal }
-    {
-        match self {
-            SeekStep::More { state: _ } => 0,
-            SeekStep::Scan { state: _ } => 0,
-            SeekStep::Done { found: _ } => 0,
-            SeekStep::TraceTooLong => 1,
-            SeekStep::WindowTooLong => 5,
-        }
-    }
-}
-
-impl SeekTime {
-    // 01's number of the refusal, 0 where it is none.
-    pub fn refusal(self) -> u32
-        ensures { result ≡ (told_seek self).refusal }
-    {
-        match self {
-            SeekTime::Found {
-                offset: _,
-                halvings: _,
-            } => 0,
-            SeekTime::Nothing { halvings: _ } => 0,
-            SeekTime::TraceTooLong => 1,
-        }
-    }
-}
-
 // The bounds after a halving.
 #[derive(Drop)]
 struct Bounds {
@@ -150,7 +107,7 @@ fn halved(met: Met, target: i64, lo: usize, mid: usize, hi: usize) -> Bounds
 
 // A step of the halving.
 fn search_step(kinds: &[u8; 256], s: &[u8], target: i64, lo: usize, hi: usize) -> SeekStep
-    ensures { told_seek_step result ≡ seek_step_of (meet_in kinds.now s.now) (length s.now) target (SeekState.Searching lo hi) }
+    ensures { told_step result ≡ step_of (meet_in kinds.now s.now) (length s.now) target (SeekState.Searching lo hi) }
 {
     let span = span::distance(lo, hi);
     if span <= SEEK_SPAN {
@@ -177,7 +134,7 @@ fn search_step(kinds: &[u8; 256], s: &[u8], target: i64, lo: usize, hi: usize) -
 
 // A step of the walk.
 fn scan_step(kinds: &[u8; 256], s: &[u8], target: i64, at: usize) -> SeekStep
-    ensures { told_seek_step result ≡ seek_step_of (meet_in kinds.now s.now) (length s.now) target (SeekState.Scanning at) }
+    ensures { told_step result ≡ step_of (meet_in kinds.now s.now) (length s.now) target (SeekState.Scanning at) }
 {
     if s.len() <= at {
         return SeekStep::Done {
@@ -209,7 +166,7 @@ fn scan_step(kinds: &[u8; 256], s: &[u8], target: i64, at: usize) -> SeekStep
 
 // One step of a time seek, so a caller that must fetch bytes can drive the search and prefetch each probe as it goes.
 pub fn seek_step(kinds: &[u8; 256], s: &[u8], time_ms: i64, state: SeekState) -> SeekStep
-    ensures { told_seek_step result ≡ seek_step_at (trace_of plausible kinds.now s.now) time_ms state }
+    ensures { told_step result ≡ step_at (trace_of plausible kinds.now s.now) time_ms state }
 {
     if TRACE_LIMIT < s.len() {
         return SeekStep::TraceTooLong;

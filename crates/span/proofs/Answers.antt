@@ -17,7 +17,6 @@ use Rattle.resync.specs.Search.{found, nothing, search_from, default_window}
 use Rattle.span.proofs.Meets.{Meets, meets}
 use Rattle.span.specs.contracts.Met.{the_type}
 use Rattle.span.specs.Met.{MetTold, end_of, met_of, meet, trace_of, not_met, told_met}
-use Rattle.span.specs.Time.{TimeTold, time_of, time_at}
 use Rattle.span.specs.declared.Met.{Met}
 use Rattle.span.specs.declared.Met.TheVariants as Met
 
@@ -61,11 +60,3 @@ module _ (limits : Limits) (kinds s : List ℕ) (from : ℕ) where
         let millis_is : pos m ≡ unix_millis (ticks_at s at) = sym z ∙ ap (λ (x : RecordTold). x.millis) (is_one limits kinds s at t is v).1 in
         let end_is : end ≡ end_of (next_at limits kinds s at) = sym n ∙ ap end_of (sym (next_one limits kinds s at t is v)) in
         rw (millis_is, end_is) (ap (met_of (trace_of limits kinds s)) e)
-
--- of what a search meets, the place and the time
-abbrev timed : MetTold → TimeTold
-timed m = record { refusal = m.refusal; is_found = m.is_found; offset = m.offset; millis = m.millis }
-
-pub time_met : (limits : Limits) (kinds s : List ℕ) (from : ℕ) (m : MetTold) → m ≡ meet (trace_of limits kinds s) from → timed m ≡ time_at limits kinds s from
-unfolding meet met_of time_of
-time_met limits kinds s from m e = ap timed e

@@ -5,4 +5,3 @@ pub mod Answers
 pub mod Exits
 pub mod Only
 pub mod Laws
-pub mod Refusals

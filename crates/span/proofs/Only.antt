@@ -2,14 +2,11 @@
 use lib.Dec.{eqb}
 use mathlib.Core.Bool.{cond}
 use mathlib.Core.Path.{◌≡◌, refl}
-use Rattle.lemmas.proofs.Only.{only, number}
+use Rattle.choice.proofs.Only.{only, number}
 use Rattle.span.specs.Met.{MetTold, told_met, FirstTold, told_first}
-use Rattle.span.specs.Time.{TimeTold, told_time}
 use Rattle.span.specs.Span.{SpanTold, told_span}
 use Rattle.span.specs.declared.Met.{Met}
 use Rattle.span.specs.declared.Met.TheVariants as Met
-use Rattle.span.specs.declared.RecordTime.{RecordTime}
-use Rattle.span.specs.declared.RecordTime.TheVariants as Time
 use Rattle.span.specs.declared.FirstRecord.{FirstRecord}
 use Rattle.span.specs.declared.FirstRecord.TheVariants as First
 use Rattle.span.specs.declared.Span.{Span}
@@ -30,22 +27,6 @@ same_met Met.WindowTooLong = refl
 
 pub only_met : (a b : Met) → told_met a ≡ told_met b → a ≡ b
 only_met = only told_met back_met same_met
-
-back_time : TimeTold → RecordTime
-back_time t =
-    cond t.is_found (Time.At t.offset (number t.millis))
-    (cond (eqb t.refusal 0) Time.Nothing
-    (cond (eqb t.refusal 1) Time.TraceTooLong Time.WindowTooLong))
-
-same_time : (r : RecordTime) → back_time (told_time r) ≡ r
-unfolding back_time number
-same_time (Time.At o m) = refl
-same_time Time.Nothing = refl
-same_time Time.TraceTooLong = refl
-same_time Time.WindowTooLong = refl
-
-pub only_time : (a b : RecordTime) → told_time a ≡ told_time b → a ≡ b
-only_time = only told_time back_time same_time
 
 back_first : FirstTold → FirstRecord
 back_first t = cond (eqb t.refusal 0) (cond t.is_found (First.At t.offset) First.Nothing) First.TraceTooLong

@@ -1,3 +1,2 @@
 pub mod Met
 pub mod Span
-pub mod Time

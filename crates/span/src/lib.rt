@@ -1,12 +1,10 @@
-// The first record of a trace, the time of the one at or after an offset, and the span: first_record and time_span of cursor.rs,
-// record_time_at of resync.rs.
+// The first record of a trace, and its span: first_record and time_span of cursor.rs.
 //
 // A record is found by a search from a place, and read once: `record_near` is what the span and the seeks see of a trace.
 ghost use Rattle.std.specs.Prelude.{◌≡◌, suc, ◌≤◌, ◌-◌, pos, length};
 ghost use Rattle.layout.specs.Layout.{trace_limit};
 ghost use Rattle.record.specs.Record.{plausible};
 ghost use Rattle.span.specs.Met.{trace_of, meet_in, told_met, first_of, told_first};
-ghost use Rattle.span.specs.Time.{time_at, told_time};
 ghost use Rattle.span.specs.Span.{last_time, last_back, span_to, span_of, told_span};
 
 use layout::{TRACE_LIMIT, ZLF_HEADER_SIZE};
@@ -26,15 +24,6 @@ pub enum Met {
     WindowTooLong,
 }
 
-// The first record at or after an offset, and its time in milliseconds.
-#[derive(Drop)]
-pub enum RecordTime {
-    At { offset: usize, unix_millis: u64 },
-    Nothing,
-    TraceTooLong,
-    WindowTooLong,
-}
-
 // Where the first record of a trace is.
 #[derive(Drop)]
 pub enum FirstRecord {
@@ -49,67 +38,6 @@ pub enum Span {
     Times { first: u64, last: u64 },
     Nothing,
     TraceTooLong,
-}
-
-impl Met {
-    // 01's number of the refusal, 0 where it is none.
-    pub fn refusal(self) -> u32
-        ensures { result ≡ (told_met self).refusal }
-    {
-        match self {
-            Met::At {
-                offset: _,
-                next_offset: _,
-                unix_millis: _,
-            } => 0,
-            Met::Nothing => 0,
-            Met::TraceTooLong => 1,
-            Met::WindowTooLong => 5,
-        }
-    }
-}
-
-impl RecordTime {
-    // 01's number of the refusal, 0 where it is none.
-    pub fn refusal(self) -> u32
-        ensures { result ≡ (told_time self).refusal }
-    {
-        match self {
-            RecordTime::At {
-                offset: _,
-                unix_millis: _,
-            } => 0,
-            RecordTime::Nothing => 0,
-            RecordTime::TraceTooLong => 1,
-            RecordTime::WindowTooLong => 5,
-        }
-    }
-}
-
-impl FirstRecord {
-    // 01's number of the refusal, 0 where it is none.
-    pub fn refusal(self) -> u32
-        ensures { result ≡ (told_first self).refusal }
-    {
-        match self {
-            FirstRecord::At { offset: _ } => 0,
-            FirstRecord::Nothing => 0,
-            FirstRecord::TraceTooLong => 1,
-        }
-    }
-}
-
-impl Span {
-    // 01's number of the refusal, 0 where it is none.
-    pub fn refusal(self) -> u32
-        ensures { result ≡ (told_span self).refusal }
-    {
-        match self {
-            Span::Times { first: _, last: _ } => 0,
-            Span::Nothing => 0,
-            Span::TraceTooLong => 1,
-        }
-    }
 }
 
 // How far hi is above lo; 0 where the bounds have crossed.
@@ -138,25 +66,6 @@ pub fn record_near(kinds: &[u8; 256], s: &[u8], from: usize) -> Met
         Search::Nothing { judged: _ } => Met::Nothing,
         Search::TraceTooLong => Met::TraceTooLong,
         Search::WindowTooLong => Met::WindowTooLong,
-    }
-}
-
-// Capture time of the first record at or after `offset`, with its position.
-pub fn record_time_at(kinds: &[u8; 256], s: &[u8], offset: usize) -> RecordTime
-    ensures { told_time result ≡ time_at plausible kinds.now s.now offset }
-{
-    match record_near(kinds, s, offset) {
-        Met::At {
-            offset: at,
-            next_offset: _,
-            unix_millis,
-        } => RecordTime::At {
-            offset: at,
-            unix_millis,
-        },
-        Met::Nothing => RecordTime::Nothing,
-        Met::TraceTooLong => RecordTime::TraceTooLong,
-        Met::WindowTooLong => RecordTime::WindowTooLong,
     }
 }
 

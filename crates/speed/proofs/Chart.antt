@@ -7,7 +7,7 @@ use mathlib.Core.List.{List, [], ◌∷◌}
 use mathlib.Core.Path.{◌≡◌, refl, sym, ap, ◌∙◌}
 use native.Mathlib.Omega.{arith}
 use borrow.Author.Tests.{eqb-true, le-ltb}
-use Rattle.lemmas.proofs.Choice.{left_true, right_true, either}
+use Rattle.choice.proofs.Choice.{left_true, right_true, either}
 use Rattle.speed.specs.Speed.{key_of, among, at9600, at40_k, at100_k, at_long_range, speed_for}
 use Rattle.speed.specs.Chart.{row_for}
 

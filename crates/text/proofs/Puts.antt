@@ -3,14 +3,13 @@
 use Prim.Native.Nat.{ℕ, suc, ◌+◌, ◌/◌, ◌%◌, ◌≤◌, ◌<◌, min}
 use lib.Dec.{ltb}
 use lib.ListN.{length, get_or, set, take, drop, length-set}
-use lib.Seq.{sets, sets-eq}
+use lib.Seq.{drop-cons, sets, sets-eq}
 use mathlib.Core.List.{List, [], ◌∷◌, ◌++◌, append-nil}
 use mathlib.Core.Path.{◌≡◌, refl, sym, ap, ◌∙◌}
 use native.Mathlib.Numerals.{add-one}
 use native.Mathlib.Omega.{arith}
 use borrow.Author.Tests.{lt-ltb, le-ltb, ltb-true, ltb-false}
-use Rattle.lemmas.proofs.Choice.{by_choice, either}
-use Rattle.lemmas.proofs.Laid.{next_byte}
+use Rattle.choice.proofs.Choice.{by_choice, either}
 use Rattle.text.specs.Put.{Filled, filled, with_byte, with_text, Put}
 use Rattle.text.specs.Texts.{capital, hex_text}
 
@@ -56,6 +55,10 @@ none_left l e = record { puts = ap (with_text _) (sym e) ∙ l.whole }
 -- what is left, put at once
 pub rest_put : {text before rest a out out' : List ℕ} {at r r' : ℕ} → Left text before at rest out r → rest ≡ a → Put a out r out' r' → Put text before at out' r'
 rest_put l e p = none_left (less_left l (e ∙ sym (append-nil _)) p) refl
+
+-- the bytes from a place on are the byte there and those after it
+pub next_byte : (l : List ℕ) (i : ℕ) → i < length l → drop i l ≡ (get_or l i 0 ∷ []) ++ drop (i + 1) l
+next_byte l i h = rw (add-one i) (drop-cons l i 0 h)
 
 -- the digits of the bytes from a place on are those of the byte there and those after it
 pub next_hex : (l : List ℕ) (i : ℕ) → i < length l

@@ -5,8 +5,8 @@ use Rattle.std.specs.Prelude.{ℕ, ◌+◌, ◌-◌, ◌*◌, ◌/◌, ◌%◌, 
 abbrev pub per_millisecond : ℕ
 per_millisecond = 10000
 
-abbrev pub day_ticks : ℕ
-day_ticks = 24 * 60 * 60 * 1000 * per_millisecond
+abbrev pub per_day : ℕ
+per_day = 24 * 60 * 60 * 1000 * per_millisecond
 
 -- the Gregorian calendar: the days from 1 January of the year 1 to 1 January of a year, when n years have gone by
 abbrev pub days_of : ℕ → ℕ
@@ -14,7 +14,7 @@ days_of n = 365 * n + n / 4 - n / 100 + n / 400
 
 -- midnight on 1 January of a year
 abbrev pub new_year : ℕ → ℕ
-new_year year = days_of (year - 1) * day_ticks
+new_year year = days_of (year - 1) * per_day
 
 -- the Unix epoch: midnight on 1 January 1970
 abbrev pub epoch : ℕ

@@ -2,7 +2,7 @@
 // input is read, to tell an input that is too long.
 ghost use Rattle.std.specs.Prelude.{◌≡◌, take};
 ghost use Rattle.io.specs.Counts.{IsPrefixLen};
-ghost use Rattle.trace_text.specs.Listing.{list_text};
+ghost use Rattle.listing.specs.Listing.{list_text};
 
 use libc::{STDIN_FILENO, STDOUT_FILENO};
 
@@ -11,7 +11,7 @@ fn listed(input: &[u8], out: &mut [u8; 131072]) -> usize
     ensures out_after { take result out.new ≡ list_text input.now }
     ensures prefix_len { IsPrefixLen result out.new }
 {
-    trace_text::list(input, out)
+    listing::list(input, out)
 }
 
 fn main() {

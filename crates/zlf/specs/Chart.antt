@@ -1,7 +1,7 @@
 -- The lines of the wall chart that `zlf speeds` prints.
 use Rattle.std.specs.Prelude.{ℕ, zero, suc, Bool, cond, List, [], ◌++◌}
-use Rattle.script_lines.specs.Fields.{chart_fields}
-use Rattle.person_lines.specs.Person.{chart_text}
+use Rattle.fields.specs.Fields.{chart_fields}
+use Rattle.show.specs.Person.{chart_text}
 
 -- a region's line, for a script or for a person
 abbrev pub region_line : Bool → ℕ → List ℕ

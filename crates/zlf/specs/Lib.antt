@@ -1,1 +1,3 @@
 pub mod Chart
+pub mod Facts
+pub mod Totals

@@ -1,11 +1,30 @@
 // The answer to a call, once the trace is read.
+ghost use Rattle.std.specs.Prelude.{true, ◌≡◌, ◌≤◌, length};
+ghost use Rattle.layout.specs.Layout.{header_size, trace_limit};
+ghost use Rattle.seam.specs.Opening.{told_opening};
+
 use crate::asked::Ask;
-use crate::{args, chosen, info, list, out, records, refuse};
+use crate::{args, facts, info, list, out, records, refuse};
+use seam::{Opening, Seam};
 use seek::SeekTime;
 
+// The refusal that an opening is, or 0.
+fn refusal_of(o: Opening) -> usize
+    ensures { result ≡ (told_opening o).refusal }
+{
+    match o {
+        Opening::Opened { version: _ } => 0,
+        Opening::TraceTooLong => 1,
+        Opening::TraceTooShort => 2,
+        Opening::OtherVersion { version: _ } => 4,
+    }
+}
+
 // Whether a trace opens as a cursor; it says why not.
-fn is_open(path: &[u8], s: &[u8], version: u32) -> bool {
-    let number = seam::open(s, version).refusal();
+fn is_open(path: &[u8], s: &[u8], version: u32) -> bool
+    ensures { result ≡ true → (header_size ≤ length s.now) × (length s.now ≤ trace_limit) }
+{
+    let number = refusal_of(seam::open(s, version));
     if number == 0 {
         return true;
     }
@@ -16,9 +35,8 @@ fn is_open(path: &[u8], s: &[u8], version: u32) -> bool {
 // The seam check from a place.
 fn check(path: &[u8], kinds: &[u8; 256], s: &[u8], ask: Ask, lines: &mut [u8]) -> u8 {
     let mark = seam::seam_check(kinds, s, ask.place);
-    let number = mark.refusal();
-    if number != 0 {
-        refuse::refusal(path, number, facts::of(ask.place as u64, s.len() as u64, 0));
+    if let Seam::PlaceOutside = mark {
+        refuse::refusal(path, 6, facts::of(ask.place as u64, s.len() as u64, 0));
         return 2;
     }
     let at = list::put_mark(lines, 0, mark, ask.place, s.len(), ask.plain);
@@ -33,13 +51,15 @@ fn sought(kinds: &[u8; 256], s: &[u8], ask: Ask, lines: &mut [u8]) -> u8 {
         return out::finish(lines, at, 0);
     }
     let texts = b"S -\nno record at that time or later\n";
-    let text = chosen::line_of(texts, chosen::choice(ask.plain));
+    let text = facts::line_of(texts, facts::choice(ask.plain));
     let at = text::put_text(lines, 0, text);
     out::finish(lines, at, 1)
 }
 
 // The answer of a trace that opens as a cursor.
-fn answered(path: &[u8], kinds: &[u8; 256], s: &[u8], ask: Ask, lines: &mut [u8]) -> u8 {
+fn answered(path: &[u8], kinds: &[u8; 256], s: &[u8], ask: Ask, lines: &mut [u8]) -> u8
+    requires { (header_size ≤ length s.now) × (length s.now ≤ trace_limit) }
+{
     if ask.command == args::LIST {
         return list::list(path, kinds, s, ask, lines);
     }

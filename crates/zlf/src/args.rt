@@ -1,5 +1,5 @@
 // The words of the call: the command, the file, and where each option's value stands among the arguments.
-use crate::{chosen, refuse};
+use crate::{facts, refuse};
 
 // The commands. Another word, or none, is 0.
 pub const HELP: u8 = 1;
@@ -290,7 +290,7 @@ which file? (zlf help COMMAND)
 which time? (zlf seek FILE TIME)
 --from and --at exclude each other
 ";
-    refuse::call(chosen::line_of(texts, lack));
+    refuse::call(facts::line_of(texts, lack));
     refused(c)
 }
 

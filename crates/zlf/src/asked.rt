@@ -1,8 +1,8 @@
 // The numbers and times of a call's words.
 use crate::args::Call;
-use crate::{args, refuse};
+use crate::{args, facts, refuse};
 use calendar::Instant;
-use timestamps::Decimal;
+use written::Decimal;
 
 // The most frames that a page is asked for: the table of a page has 600.
 const MOST: u64 = 500;
@@ -42,7 +42,7 @@ fn number_at(i: usize, usual: u64, least: u64, most: u64) -> Number {
     let mut room = io::buffer();
     let k = os::arg(i, &mut room);
     let word = &room[..k];
-    if let Decimal::Number { n } = timestamps::number_in(word) {
+    if let Decimal::Number { n } = written::number_in(word) {
         if (least <= n) & (n <= most) {
             return Number { n, good: true };
         }
@@ -73,7 +73,7 @@ fn moment_at(i: usize) -> Moment {
     let mut room = io::buffer();
     let k = os::arg(i, &mut room);
     let word = &room[..k];
-    if let Instant::At { millis: instant } = timestamps::parse(word) {
+    if let Instant::At { millis: instant } = written::parse(word) {
         return Moment {
             millis: since_epoch(instant),
             good: true,
@@ -93,10 +93,10 @@ fn moment_at(i: usize) -> Moment {
 // An instant in milliseconds since the Unix epoch, within a signed number. Every record is of the year 2000 or later, so that a time
 // before the epoch counts as the epoch.
 fn since_epoch(instant: u64) -> i64 {
-    if instant < timestamps::UNIX_EPOCH {
+    if instant < written::UNIX_EPOCH {
         return 0;
     }
-    let after = instant - timestamps::UNIX_EPOCH;
+    let after = instant - written::UNIX_EPOCH;
     if after < 9_223_372_036_854_775_808 {
         return after as i64;
     }

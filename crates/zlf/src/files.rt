@@ -1,8 +1,8 @@
 // The trace's file, read whole into an array of the smallest size class that holds it.
-ghost use Rattle.std.specs.Prelude.{◌≤◌};
+ghost use Rattle.std.specs.Prelude.{◌≤◌, length};
 
 use crate::asked::Ask;
-use crate::{answer, kinds, refuse};
+use crate::{answer, facts, kinds, refuse};
 use layout::TRACE_LIMIT;
 use libc::{SEEK_END, SEEK_SET};
 

@@ -1,5 +1,5 @@
 // How `zlf` is called.
-use crate::{args, refuse};
+use crate::{args, facts, refuse};
 use libc::STDOUT_FILENO;
 
 fn general() {

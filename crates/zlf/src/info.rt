@@ -1,14 +1,89 @@
-// What a trace holds, and the record that a seek found.
+// What a trace holds, found in one walk over its records; and the record that a seek found.
+ghost use Rattle.std.specs.Prelude.{◌≡◌, ℕ, ◌+◌, ◌≤◌, ◌<◌, length, get_or, set};
+ghost use Rattle.layout.specs.Layout.{header_size, trace_limit};
+ghost use Rattle.record.specs.Record.{plausible};
+ghost use Rattle.seam.specs.Seam.{seam_at, told_seam};
+ghost use Rattle.zlf.specs.Totals.{records_of, frames_of};
+
 use crate::asked::Ask;
-use crate::{chosen, list, out};
-use layout::{HEADER_CRC_OFFSET, ZLF_HEADER_SIZE};
+use crate::{facts, list, out};
+use layout::{RECORD_HEADER, ZLF_HEADER_SIZE};
 use record::Record;
 use seam::Seam;
 use span::Span;
-use totals::Totals;
+
+// The bytes that the header sum is of.
+const SUMMED: usize = 2046;
+
+// Records and frames by kind, and what the seam check says.
+#[derive(Drop)]
+struct Totals {
+    pub mark: Seam,
+    pub records: [u64; 5],
+    pub frames: [u64; 5],
+}
+
+// One record more of a kind, with its frames.
+fn counted(t: Totals, kind: u8, frames: u64) -> Totals
+    requires { (kind < 5) × (get_or t.records kind 0 + 1 < 18446744073709551616) × (get_or t.frames kind 0 + frames < 18446744073709551616) }
+    ensures { (result.records ≡ set t.records kind (get_or t.records kind 0 + 1)) × (result.frames ≡ set t.frames kind (get_or t.frames kind 0 + frames)) }
+{
+    let k = kind as usize;
+    let mut d = t;
+    d.records[k] = d.records[k] + 1;
+    d.frames[k] = d.frames[k] + frames;
+    d
+}
+
+fn with_mark(t: Totals, mark: Seam) -> Totals
+    ensures { (result.mark ≡ mark) × (result.records ≡ t.records) × (result.frames ≡ t.frames) }
+{
+    let records = t.records;
+    let frames = t.frames;
+    Totals {
+        mark,
+        records,
+        frames,
+    }
+}
+
+// Walks the records from the header's end on, up to the last byte or to the first place without a valid record.
+fn walked(kinds: &[u8; 256], s: &[u8]) -> Totals
+    requires { (header_size ≤ length s.now) × (length s.now ≤ trace_limit) }
+    ensures { (told_seam result.mark ≡ seam_at plausible kinds.now s.now header_size)
+        × ((k : ℕ) → (get_or result.records k 0 ≡ records_of kinds.now s.now k header_size)
+        × (get_or result.frames k 0 ≡ frames_of kinds.now s.now k header_size)) }
+{
+    let mut t = Totals {
+        mark: Seam::PlaceOutside,
+        records: [0; 5],
+        frames: [0; 5],
+    };
+    let mut at = ZLF_HEADER_SIZE;
+    let mut n: usize = 0;
+    while at < s.len() {
+        let Record::Valid { header } = record::read_record(kinds, s, at) else {
+            return with_mark(
+                t,
+                Seam::Broken {
+                    place: at,
+                    records: n,
+                },
+            );
+        };
+        let first = at + RECORD_HEADER;
+        let end = first + header.payload_len;
+        let payload = &s[first..end];
+        let frames = rows::frame_count(payload, header.kind, header.is_outcome);
+        t = counted(t, header.kind, frames as u64);
+        at = header.next_offset;
+        n += 1;
+    }
+    with_mark(t, Seam::Unbroken { records: n })
+}
 
 fn sum_of(s: &[u8]) -> u16 {
-    checksum::header_sum(out::first(s, HEADER_CRC_OFFSET))
+    checksum::header_sum(out::first(s, SUMMED))
 }
 
 // Size and version.
@@ -23,20 +98,20 @@ fn put_head(lines: &mut [u8], at: usize, s: &[u8], plain: bool) -> usize {
 // Which of three lines the sums take.
 fn sum_text(same: bool, plain: bool) -> usize {
     if same {
-        return chosen::choice(plain);
+        return facts::choice(plain);
     }
-    2 * chosen::choice(plain)
+    2 * facts::choice(plain)
 }
 
 // The header's sum, as it is stored and as it is.
 fn put_sums(lines: &mut [u8], at: usize, s: &[u8], plain: bool) -> usize {
-    let stored = layout::u16_at(s, HEADER_CRC_OFFSET);
+    let stored = layout::u16_at(s, SUMMED);
     let found = sum_of(s);
     let texts = b"sum # #
 header sum      #, as computed
 header sum      #, WRONG: computed #
 ";
-    let text = chosen::line_of(texts, sum_text(stored == found, plain));
+    let text = facts::line_of(texts, sum_text(stored == found, plain));
     facts::put_line(lines, at, text, facts::of(stored as u64, found as u64, 0))
 }
 
@@ -44,7 +119,7 @@ header sum      #, WRONG: computed #
 fn put_span(lines: &mut [u8], at: usize, r: Span, plain: bool) -> usize {
     let Span::Times { first, last } = r else {
         let texts = b"span -\nfirst record    none\n";
-        let text = chosen::line_of(texts, chosen::choice(plain));
+        let text = facts::line_of(texts, facts::choice(plain));
         return text::put_text(lines, at, text);
     };
     put_times(lines, at, first, last, plain)
@@ -78,12 +153,12 @@ fn put_count(
     if records == 0 {
         return at;
     }
-    person_lines::count_line(lines, at, kind, records, frames)
+    show::count_line(lines, at, kind, records, frames)
 }
 
 // The counts of the four kinds that a valid record has.
 fn put_counts(lines: &mut [u8], at: usize, t: Totals, plain: bool) -> usize {
-    let mut next = chosen::put_heading(
+    let mut next = facts::put_heading(
         lines,
         at,
         b"kind                 records      frames\n",
@@ -100,8 +175,10 @@ fn put_counts(lines: &mut [u8], at: usize, t: Totals, plain: bool) -> usize {
 }
 
 // What a trace holds.
-pub fn info(kinds: &[u8; 256], s: &[u8], ask: Ask, lines: &mut [u8]) -> u8 {
-    let t = totals::trace_totals(kinds, s);
+pub fn info(kinds: &[u8; 256], s: &[u8], ask: Ask, lines: &mut [u8]) -> u8
+    requires { (header_size ≤ length s.now) × (length s.now ≤ trace_limit) }
+{
+    let t = walked(kinds, s);
     let mark = t.mark;
     let head = put_head(lines, 0, s, ask.plain);
     let sums = put_sums(lines, head, s, ask.plain);
@@ -113,7 +190,7 @@ pub fn info(kinds: &[u8; 256], s: &[u8], ask: Ask, lines: &mut [u8]) -> u8 {
 
 // The status: 1 where the header's sum is wrong too.
 fn status_of(s: &[u8], mark: Seam) -> u8 {
-    if layout::u16_at(s, HEADER_CRC_OFFSET) != sum_of(s) {
+    if layout::u16_at(s, SUMMED) != sum_of(s) {
         return 1;
     }
     list::status_of(mark)
@@ -133,6 +210,6 @@ pub fn put_found(
     };
     let f = facts::of(offset as u64, header.unix_millis, halvings as u64);
     let texts = b"S % % %\nrecord at %, of @, found in % halvings\n";
-    let text = chosen::line_of(texts, chosen::choice(plain));
+    let text = facts::line_of(texts, facts::choice(plain));
     facts::put_line(lines, 0, text, f)
 }

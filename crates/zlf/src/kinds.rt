@@ -1,5 +1,5 @@
 // The kind table: that of docs/src, or one from a file of 256 bytes.
-use crate::refuse;
+use crate::{facts, refuse};
 use layout::{OTHER, PTI, PTI_DIAGNOSTIC, ZNIFFER};
 
 // A kind table, and whether there is one.

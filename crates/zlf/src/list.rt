@@ -1,10 +1,11 @@
 // Pages of frames, each with its edges and its mark.
 ghost use Rattle.std.specs.Prelude.{◌≡◌};
 ghost use Rattle.record.specs.Record.{plausible};
+ghost use Rattle.paging.specs.Page.{told_page};
 ghost use Rattle.seam.specs.Seam.{seam_at, told_seam};
 
 use crate::asked::Ask;
-use crate::{chosen, out, refuse};
+use crate::{facts, marks, out, refuse};
 use cursor::Table;
 use paging::Page;
 use record::Record;
@@ -30,9 +31,9 @@ pub fn put_mark(
     plain: bool,
 ) -> usize {
     if plain {
-        return script_lines::mark_fields(lines, at, mark, place);
+        return fields::mark_fields(lines, at, mark, place);
     }
-    person_lines::mark_line(lines, at, mark, place, size)
+    show::mark_line(lines, at, mark, place, size)
 }
 
 // The kind of the record at a place.
@@ -56,9 +57,9 @@ fn put_row(lines: &mut [u8], at: usize, kinds: &[u8; 256], s: &[u8], r: Row, pla
     let kind = kind_at(kinds, s, r.record);
     let mpdu = part(s, r.mpdu, r.mpdu_len);
     if plain {
-        return script_lines::frame_fields(lines, at, kind, r, mpdu);
+        return fields::frame_fields(lines, at, kind, r, mpdu);
     }
-    person_lines::frame_line(lines, at, kind, r, mpdu)
+    show::frame_line(lines, at, kind, r, mpdu)
 }
 
 // The lines of the first n rows of a table.
@@ -126,9 +127,9 @@ fn edges_of(p: Page) -> Edges {
 // Which of four lines a page's edges take.
 fn edge_text(more: bool, plain: bool) -> usize {
     if more {
-        return chosen::choice(plain);
+        return facts::choice(plain);
     }
-    2 + chosen::choice(plain)
+    2 + facts::choice(plain)
 }
 
 // The line of a page's edges.
@@ -142,9 +143,26 @@ page from %, frames: %, no next page
     facts::put_line(
         lines,
         at,
-        chosen::line_of(texts, edge_text(e.more, plain)),
+        facts::line_of(texts, edge_text(e.more, plain)),
         f,
     )
+}
+
+// The refusal that a page is, or 0.
+fn refusal_of(p: Page) -> usize
+    ensures { result ≡ (told_page p).refusal }
+{
+    match p {
+        Page::More {
+            start: _,
+            size: _,
+            next: _,
+        } => 0,
+        Page::Last { start: _, size: _ } => 0,
+        Page::TraceTooLong => 1,
+        Page::WindowTooLong => 5,
+        Page::TableTooShort => 7,
+    }
 }
 
 // Where a walk over pages stands: the place where the lines go on, the next page's offset, the last page's start and mark, the worst
@@ -171,7 +189,7 @@ fn put_page(
     plain: bool,
 ) -> usize {
     let rows = t.rows;
-    let open = chosen::put_heading(
+    let open = facts::put_heading(
         lines,
         out::spill(lines, at),
         b"time (UTC)                       gap ms way region   rate  ch  RSSI  beams      record  pos  MPDU\n",
@@ -205,11 +223,11 @@ fn turned(path: &[u8], kinds: &[u8; 256], s: &[u8], ask: Ask, w: Walk, lines: &m
     let p = t.page;
     let e = edges_of(p);
     if !e.good {
-        refuse::refusal(path, p.refusal(), facts::of(w.offset as u64, 0, 0));
+        refuse::refusal(path, refusal_of(p), facts::of(w.offset as u64, 0, 0));
         return stopped(w, 2);
     }
     let before = w.mark;
-    let mark = totals::later_mark(kinds, s, w.from, before, e.start);
+    let mark = marks::later(kinds, s, w.from, before, e.start);
     let at = put_page(lines, w.at, kinds, s, t, e, mark, ask.plain);
     Walk {
         at,

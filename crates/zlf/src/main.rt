@@ -4,12 +4,13 @@
 mod answer;
 mod args;
 mod asked;
-mod chosen;
+mod facts;
 mod files;
 mod help;
 mod info;
 mod kinds;
 mod list;
+mod marks;
 mod out;
 mod records;
 mod refuse;

@@ -1,11 +1,31 @@
 // The sequential reader's view: records as they are stored.
+ghost use Rattle.std.specs.Prelude.{◌≡◌};
+ghost use Rattle.reader.specs.Opening.{told_opening};
+ghost use Rattle.reader.specs.Next.{told_next};
+
 use crate::asked::Ask;
-use crate::{chosen, out, refuse};
-use reader::{Next, ZlfReader, ZlfRecord};
+use crate::{facts, out, refuse};
+use reader::{Next, Opening, ZlfReader, ZlfRecord};
+
+// The refusal that an opening is, or 0.
+fn opening_refusal(o: Opening) -> usize
+    ensures { result ≡ (told_opening o).refusal }
+{
+    match o {
+        Opening::Opened {
+            version: _,
+            reader: _,
+        } => 0,
+        Opening::TraceTooLong => 1,
+        Opening::TraceTooShort => 2,
+        Opening::InvalidHeaderChecksum => 3,
+        Opening::InvalidZlfVersion { version: _ } => 4,
+    }
+}
 
 // Whether a trace opens in sequence; it says why not.
 fn is_open(path: &[u8], s: &[u8], version: u32) -> bool {
-    let number = ZlfReader::new(s, version).refusal();
+    let number = opening_refusal(ZlfReader::new(s, version));
     if number == 0 {
         return true;
     }
@@ -16,9 +36,29 @@ fn is_open(path: &[u8], s: &[u8], version: u32) -> bool {
 // The line of a record.
 fn put_record(lines: &mut [u8], at: usize, r: ZlfRecord, plain: bool) -> usize {
     if plain {
-        return script_lines::record_fields(lines, at, r);
+        return fields::record_fields(lines, at, r);
     }
-    person_lines::record_line(lines, at, r)
+    show::record_line(lines, at, r)
+}
+
+// The refusal that a record is, or 0.
+fn refusal_of(n: Next) -> usize
+    ensures { result ≡ (told_next n).refusal }
+{
+    match n {
+        Next::Record {
+            header: _,
+            reader: _,
+        } => 0,
+        Next::End { reader: _ } => 0,
+        Next::TraceTooLong { reader: _ } => 1,
+        Next::InvalidPayloadLength {
+            length: _,
+            reader: _,
+        } => 8,
+        Next::EofInHead { reader: _ } => 9,
+        Next::EofInPayload { reader: _ } => 10,
+    }
 }
 
 // Where the sequence stands: the place where the lines go on, the next record's place, the refusal that ended it, and whether it goes on.
@@ -26,12 +66,12 @@ fn put_record(lines: &mut [u8], at: usize, r: ZlfRecord, plain: bool) -> usize {
 struct Reading {
     pub at: usize,
     pub place: usize,
-    pub refusal: u32,
+    pub refusal: usize,
     pub going: bool,
 }
 
 // No record more.
-fn ended(w: Reading, refusal: u32) -> Reading {
+fn ended(w: Reading, refusal: usize) -> Reading {
     let mut v = w;
     v.refusal = refusal;
     v.going = false;
@@ -46,7 +86,7 @@ fn read_on(kinds: &[u8; 256], s: &[u8], w: Reading, plain: bool, lines: &mut [u8
     };
     let n = r.next_record(kinds, s);
     let Next::Record { header, reader } = n else {
-        return ended(w, n.refusal());
+        return ended(w, refusal_of(n));
     };
     let at = put_record(lines, out::spill(lines, w.at), header, plain);
     Reading {
@@ -71,7 +111,7 @@ pub fn records(path: &[u8], kinds: &[u8; 256], s: &[u8], ask: Ask, lines: &mut [
     if !is_open(path, s, ask.version) {
         return 2;
     }
-    let at = chosen::put_heading(
+    let at = facts::put_heading(
         lines,
         0,
         b"     place time (UTC)               way ses EB kind              payload     length\n",

@@ -1,6 +1,6 @@
 // Refusals and bad calls: one plain line on standard error.
-use crate::{chosen, out};
-use facts::Facts;
+use crate::facts::Facts;
+use crate::{facts, out};
 use libc::STDERR_FILENO;
 
 // Writes the first bytes of a line.
@@ -33,7 +33,7 @@ pub fn call(text: &[u8]) {
 }
 
 // 01's refusals by their numbers, 1 to 10.
-pub fn refusal(path: &[u8], number: u32, f: Facts) {
+pub fn refusal(path: &[u8], number: usize, f: Facts) {
     let texts = b"
 : refusal 1: the file has more than 1073741824 bytes, the longest trace that is read
 : refusal 2: a trace has a header of 2048 bytes, and this file has % bytes
@@ -46,11 +46,11 @@ pub fn refusal(path: &[u8], number: u32, f: Facts) {
 : refusal 9: the trace ends in the properties or the length of the record at %
 : refusal 10: the trace ends in the payload or before the end byte of the record at %
 ";
-    file(path, chosen::line_of(texts, number as usize), f)
+    file(path, facts::line_of(texts, number), f)
 }
 
 // The fact of a refusal to open a trace: its version, or its size.
-fn opening_fact(s: &[u8], number: u32) -> u64 {
+fn opening_fact(s: &[u8], number: usize) -> u64 {
     if number == 4 {
         return layout::u32_at(s, 0) as u64;
     }
@@ -58,7 +58,7 @@ fn opening_fact(s: &[u8], number: u32) -> u64 {
 }
 
 // A trace that does not open.
-pub fn opening(path: &[u8], number: u32, s: &[u8]) {
+pub fn opening(path: &[u8], number: usize, s: &[u8]) {
     refusal(path, number, facts::of(opening_fact(s, number), 0, 0))
 }
 

@@ -2,7 +2,7 @@
 ghost use Rattle.text.specs.Put.{Put};
 ghost use Rattle.zlf.specs.Chart.{region_line, lines_below};
 
-use crate::{chosen, out};
+use crate::{facts, out};
 
 // How many regions the chart has.
 const REGIONS: u8 = 32;
@@ -12,9 +12,9 @@ fn put_region(lines: &mut [u8], at: usize, region: u8, plain: bool) -> usize
     ensures { Put (region_line plain region) lines.old at lines.new result }
 {
     if plain {
-        return script_lines::chart_fields(lines, at, region);
+        return fields::chart_fields(lines, at, region);
     }
-    person_lines::chart_line(lines, at, region)
+    show::chart_line(lines, at, region)
 }
 
 // The lines for all of them, from 0 on.
@@ -33,14 +33,14 @@ fn put_regions(lines: &mut [u8], at: usize, plain: bool) -> usize
 // The chart.
 pub fn speeds(plain: bool) -> u8 {
     let mut room = io::buffer();
-    let top = chosen::put_heading(
+    let top = facts::put_heading(
         &mut room,
         0,
         b"region  name      ch 0  ch 1  ch 2  ch 3\n",
         plain,
     );
     let bottom = put_regions(&mut room, top, plain);
-    let end = chosen::put_heading(
+    let end = facts::put_heading(
         &mut room,
         bottom,
         b"9.6k is also the answer where the wall chart is empty, and for every other region and channel\n",

@@ -8,9 +8,8 @@ use mathlib.Core.Bool.{true, false, and-false, or-false}
 use mathlib.Core.List.{List, [], ◌∷◌}
 use mathlib.Core.Path.{◌≡◌, refl, sym, ap, ◌∙◌}
 use native.Mathlib.Omega.{arith}
-use Rattle.lemmas.proofs.Choice.{right_true as right, either}
-use Rattle.lemmas.proofs.Laid.{lay_turn, next_byte}
-use Rattle.zniffer_numbers.specs.States.{await_payload}
+use Rattle.choice.proofs.Choice.{right_true as right, either}
+use Rattle.choice.proofs.Laid.{lay_turn}
 use Rattle.zniffer_numbers.specs.declared.Core.{Core}
 use Rattle.zniffer_numbers.specs.declared.CoreStep.{CoreStep}
 use Rattle.zniffer_numbers.specs.declared.ParserResult.{ParserResult}
@@ -21,16 +20,16 @@ use Rattle.zniffer_states.specs.Step.{whole, payload_byte, take_of}
 use Rattle.zniffer_states.proofs.Laws.{both, by_state, room}
 use Rattle.zniffer_core.specs.declared.CoreRan.{CoreRan}
 use Rattle.zniffer_core.specs.Run.{core_step_of, core_run_from}
-use Rattle.zniffer_core.proofs.RunLaws.{taken, refuses}
+use Rattle.zniffer_core.proofs.RunLaws.{taken, next_byte, refuses}
 use Rattle.zniffer_core.proofs.Kept.{kept}
 use Rattle.zniffer.specs.declared.parser.Ran.{Ran}
-use Rattle.zniffer.specs.Parse.{parser_of, payload_with, settle, parser_step_of, run_from}
+use Rattle.zniffer.specs.Parse.{parser_of, with_byte, settle, step_of, run_from}
 use Rattle.zniffer.specs.Held.{held_by}
-use Rattle.zniffer.proofs.Agree.{step_of, result_of, next_of}
+use Rattle.zniffer.proofs.Agree.{step_of_lem, result_of, next_of}
 use Rattle.zniffer.proofs.ParserLaws.{step_refused}
 
 -- a parser that waits for no payload has none
-pub none_yet : (c : Core) → reachable_of c ≡ true → eqb c.state await_payload ≡ false → unfilled c ≡ true
+pub none_yet : (c : Core) → reachable_of c ≡ true → eqb c.state 3 ≡ false → unfilled c ≡ true
 none_yet c h e = either (unfilled c) (λ yes'. yes') (λ no'. let z : false ≡ true = simp (no', e, and-false, or-false) at h in absurd (eqb-false 0 0 (sym z) refl))
 
 -- how many bytes of a payload there are after a byte
@@ -38,7 +37,7 @@ abbrev pub held_after : CoreStep → ℕ
 held_after t = held_by t.core t.result
 
 -- none after a byte that is none of a payload's
-module _ (c : Core) (b : ℕ) (z : c.count ≡ 0) (other : eqb c.state await_payload ≡ false) where
+module _ (c : Core) (b : ℕ) (z : c.count ≡ 0) (other : eqb c.state 3 ≡ false) where
   abbrev None : CoreStep → Type 0
   None t = held_after t ≡ 0
 
@@ -48,7 +47,7 @@ module _ (c : Core) (b : ℕ) (z : c.count ≡ 0) (other : eqb c.state await_pay
       (λ _. both None (eqb b 0x23) z (both None (eqb b 0x21) z z))
       (λ _. both None (command_ok b) z refl)
       (λ _. both None (eqb b 0) refl refl)
-      (λ e. absurd (eqb-false c.state await_payload other e))
+      (λ e. absurd (eqb-false c.state 3 other e))
       (λ _. both None (type_ok b) z refl)
       (λ _. both None c.timestamp_state z z)
       (λ _. z)
@@ -59,7 +58,7 @@ module _ (c : Core) (b : ℕ) (z : c.count ≡ 0) (other : eqb c.state await_pay
       refl
 
 -- one more after a byte of a payload
-module _ (c : Core) (b : ℕ) (h : reachable_of c ≡ true) (s : c.state ≡ await_payload) where
+module _ (c : Core) (b : ℕ) (h : reachable_of c ≡ true) (s : c.state ≡ 3) where
   is_payload : core_step_of c b ≡ payload_byte c
   unfolding core_step_of
   is_payload = rw (h, s)
@@ -71,7 +70,7 @@ module _ (c : Core) (b : ℕ) (h : reachable_of c ≡ true) (s : c.state ≡ awa
   one_held =
       rw is_payload (either (eqb (c.count + 1) c.length) (λ e. rw e (said _ ∙ sym (eqb-true (c.count + 1) c.length e))) (λ e. rw e refl))
 
-pub none_held : (c : Core) (b : ℕ) → reachable_of c ≡ true → eqb c.state await_payload ≡ false → (c.count ≡ 0) × (held_after (core_step_of c b) ≡ 0)
+pub none_held : (c : Core) (b : ℕ) → reachable_of c ≡ true → eqb c.state 3 ≡ false → (c.count ≡ 0) × (held_after (core_step_of c b) ≡ 0)
 none_held c b h other =
     let z = eqb-true c.count 0 (right (eqb c.length 0) (eqb c.count 0) (none_yet c h other)) in
     (z, rw (taken c b h) at (none_taken c b z other))
@@ -102,17 +101,17 @@ piece_more s l h i in-s =
 
 -- a byte puts the payload so far on
 put_on : (s l l₀ : List ℕ) (i : ℕ) (c : Core) → reachable_of c ≡ true → i < length s → l ≡ piece s l₀ c.count i
-    → payload_with c l (get_or s i 0) ≡ piece s l₀ (held_after (core_step_of c (get_or s i 0))) (i + 1)
+    → with_byte c l (get_or s i 0) ≡ piece s l₀ (held_after (core_step_of c (get_or s i 0))) (i + 1)
 put_on s l l₀ i c h in-s e =
     let b = get_or s i 0 in
-    either (eqb c.state await_payload)
+    either (eqb c.state 3)
     (λ yes'.
-    let st = eqb-true c.state await_payload yes' in
-    let put : payload_with c l b ≡ set l c.count b = rw (yes', lt-ltb c.count c.length (room c h st)) in
+    let st = eqb-true c.state 3 yes' in
+    let put : with_byte c l b ≡ set l c.count b = rw (yes', lt-ltb c.count c.length (room c h st)) in
     rw (put, one_held c b h st, e) (sym (piece_more s l₀ c.count i in-s)))
     (λ no'.
     let n = none_held c b h no' in
-    let left : payload_with c l b ≡ l = rw no' in
+    let left : with_byte c l b ≡ l = rw no' in
     left ∙ e ∙ piece_none s l₀ c.count i (omega (arith, n.0)) ∙ sym (piece_none s l₀ (held_after (core_step_of c b)) (i + 1) (omega (arith, n.1))))
 
 -- a run of the numbers and the payload after it, put together
@@ -138,17 +137,17 @@ module _ (s l₀ : List ℕ) (bytes : (k : ℕ) → get_or s k 0 < 256) where
       → run_from i (drop i s) (parser_of c l) ≡ ran_of (core_run_from i (drop i s) c) (left_by s l₀ (core_run_from i (drop i s) c))
   unfolding run_from core_run_from
   on_more i c l h in-s e g rest =
-      let b = get_or s i 0 in let t = core_step_of c b in let m = payload_with c l b in
-      let said : goes_on (parser_step_of (parser_of c l) b).answer.result ≡ true = rw (← result_of c l b t m refl refl) g in
+      let b = get_or s i 0 in let t = core_step_of c b in let m = with_byte c l b in
+      let said : goes_on (step_of (parser_of c l) b).answer.result ≡ true = rw (← result_of c l b t m refl refl) g in
       rw (next_byte s i in-s) (rw (said, g, next_of c l b t m refl refl g) (rest t.core m (kept c b (bytes i)) (put_on s l l₀ i c h in-s e ∙ ap (λ n. piece s l₀ n (i + 1)) (so_far t.core t.result g))))
 
   on_last : (i : ℕ) (c : Core) (l : List ℕ) → reachable_of c ≡ true → i < length s → l ≡ piece s l₀ c.count i → goes_on (core_step_of c (get_or s i 0)).result ≡ false
       → run_from i (drop i s) (parser_of c l) ≡ ran_of (core_run_from i (drop i s) c) (left_by s l₀ (core_run_from i (drop i s) c))
   unfolding run_from core_run_from
   on_last i c l h in-s e g =
-      let b = get_or s i 0 in let t = core_step_of c b in let m = payload_with c l b in
-      let said : goes_on (parser_step_of (parser_of c l) b).answer.result ≡ false = rw (← result_of c l b t m refl refl) g in
-      rw (next_byte s i in-s) (rw (said, g, ← step_of c l b t m refl refl) (ap (ran_of (record { core = t.core; result = t.result; used = i + 1 })) (put_on s l l₀ i c h in-s e)))
+      let b = get_or s i 0 in let t = core_step_of c b in let m = with_byte c l b in
+      let said : goes_on (step_of (parser_of c l) b).answer.result ≡ false = rw (← result_of c l b t m refl refl) g in
+      rw (next_byte s i in-s) (rw (said, g, ← step_of_lem c l b t m refl refl) (ap (ran_of (record { core = t.core; result = t.result; used = i + 1 })) (put_on s l l₀ i c h in-s e)))
 
   at_end : (i : ℕ) (c : Core) (l : List ℕ) → length s ≡ i → l ≡ piece s l₀ c.count i → run_from i (drop i s) (parser_of c l) ≡ ran_of (core_run_from i (drop i s) c) (left_by s l₀ (core_run_from i (drop i s) c))
   unfolding run_from core_run_from

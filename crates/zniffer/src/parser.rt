@@ -1,11 +1,11 @@
 // The parser with its payload, by value: a step, and a run over several bytes.
-ghost use Rattle.std.specs.Prelude.{◌≡◌, ◌+◌, ◌≤◌, length};
+ghost use Rattle.std.specs.Prelude.{◌≡◌, ◌+◌, ◌≤◌, ◌<◌, min, length};
 ghost use Rattle.std.proofs.lemmas.List.Edits.{sets};
-ghost use Rattle.zniffer.specs.Parse.{no_payload, core_of, parser_of, fresh_parser, payload_with, settle, parser_step_of, run_from};
+ghost use Rattle.zniffer.specs.Parse.{zeros, core_of, parser_of, fresh_parser, with_byte, settle, step_of, run_from};
 ghost use Rattle.zniffer.specs.Held.{held_by};
 
 use zniffer_core::{core_step, run_core};
-use zniffer_numbers::{AWAIT_PAYLOAD, AWAIT_START_OF_FRAME, Core, ParserResult};
+use zniffer_numbers::{Core, ParserResult};
 
 // The numbers of `Core`, and the payload so far, of which `count` bytes are there and no others are looked at.
 #[repr(C)]
@@ -53,7 +53,7 @@ pub struct Ran {
 
 // A function of its own, so that no proof meets 255 zeros.
 fn no_payload() -> [u8; 255]
-    ensures { result ≡ no_payload }
+    ensures { result ≡ zeros }
 {
     [0u8; 255]
 }
@@ -63,7 +63,7 @@ pub fn fresh() -> Parser
 {
     let payload = no_payload();
     Parser {
-        state: AWAIT_START_OF_FRAME,
+        state: 0,
         command_id: 0,
         length: 0,
         count: 0,
@@ -117,9 +117,9 @@ fn parser_of(c: Core, payload: [u8; 255]) -> Parser
 
 // The payload with one byte more, where a byte of it is awaited.
 fn with_byte(c: Core, payload: [u8; 255], value: u8) -> [u8; 255]
-    ensures { result ≡ payload_with c payload value }
+    ensures { result ≡ with_byte c payload value }
 {
-    let awaited = (c.state == AWAIT_PAYLOAD) & (c.count < c.length);
+    let awaited = (c.state == 3) & (c.count < c.length);
     if awaited {
         let at = c.count as usize;
         let mut next = payload;
@@ -173,7 +173,7 @@ fn settled(c: Core, payload: [u8; 255], r: ParserResult) -> Parsed
 
 // One byte, at any parser.
 pub fn step(p: Parser, value: u8) -> Parsed
-    ensures { result ≡ parser_step_of p value }
+    ensures { result ≡ step_of p value }
 {
     let c = core_of(p);
     let payload = p.payload;
@@ -203,6 +203,18 @@ fn held(c: Core, r: ParserResult) -> u8
     }
 }
 
+fn wide(x: u8) -> usize
+    ensures { (result ≡ x) × (result < 256) }
+{
+    x as usize
+}
+
+fn smaller(a: usize, b: usize) -> usize
+    ensures { result ≡ min a b }
+{
+    if a < b { a } else { b }
+}
+
 // Bytes into a payload from a place on.
 fn lay(l: &mut [u8; 255], at: usize, bytes: &[u8])
     requires { at + length bytes.now ≤ 255 }
@@ -225,8 +237,8 @@ pub fn run(p: Parser, s: &[u8]) -> Ran
     let next = t.core;
     let result = t.result;
     let used = t.used;
-    let end = numbers::wide(held(next, result));
-    let n = numbers::smaller(end, used);
+    let end = wide(held(next, result));
+    let n = smaller(end, used);
     let from = used - n;
     lay(&mut l, end - n, &s[from..used]);
     let e = settled(next, l, result);

@@ -1,19 +1,18 @@
 -- A whole header, byte after byte from a fresh parser; a payload that is there to its last byte; and both, at the start of the bytes. Assumes nothing.
 use Prim.Native.Nat.{ℕ, ◌+◌, ◌-◌, ◌*◌, ◌/◌, ◌%◌, ◌≤◌, ◌<◌}
 use borrow.Author.Tests.{lt-ltb, eq-eqb, eqb-true, eqb-false, leb-true, not-true}
-use lib.Dec.{leb, eqb}
+use lib.Dec.{ltb, leb, eqb}
 use lib.ListN.{length, drop, get_or, length-drop}
 use lib.Seq.{drop-drop}
 use mathlib.Core.Bool.{Bool, true, false, not, ◌&&◌}
 use mathlib.Core.List.{List}
 use mathlib.Core.Path.{◌≡◌, refl, sym, ap, ◌∙◌}
 use native.Mathlib.Omega.{arith}
-use Rattle.lemmas.proofs.Choice.{left_true as left, right_true as right, by_choice}
-use Rattle.zniffer_numbers.specs.States.{await_start_of_frame, await_command_id, await_length, await_payload, await_type, await_timestamp, await_channel_and_speed, await_region, await_rssi, await_startof_data_one, await_startof_data_two}
+use Rattle.choice.proofs.Choice.{left_true as left, right_true as right, by_choice}
 use Rattle.zniffer_numbers.specs.declared.Core.{Core}
 use Rattle.zniffer_numbers.specs.declared.ParserResult.TheVariants.{ValidCommand}
 use Rattle.zniffer_numbers.specs.Numbers.{core, fresh_core, goes_on}
-use Rattle.zniffer_tests.specs.Tests.{command_ok, type_ok, region_ok, unfilled, no_region, no_channel, no_frame_yet, quiet, reachable_of}
+use Rattle.zniffer_tests.specs.Tests.{command_ok, type_ok, region_ok, unfilled, no_region, no_channel, no_frame, quiet, reachable_of}
 use Rattle.zniffer_states.specs.Step.{going, done, whole}
 use Rattle.zniffer_starts.specs.Header.{no_head, command_heads, frame_heads, command_head, frame_head, head_of}
 use Rattle.zniffer_starts.specs.declared.headers.Head.{Head}
@@ -24,66 +23,66 @@ use Rattle.zniffer_core.proofs.RunLaws.{taken, on, run_last}
 use Rattle.zniffer_core.proofs.Skips.{later, skipped, still}
 
 -- the three bytes of a command's header, each from the numbers that the last one left
-command_step : core_step_of fresh_core 0x23 ≡ going (core await_command_id 0 0 0 0 0 false 0 0 0 0)
+command_step : core_step_of fresh_core 0x23 ≡ going (core 1 0 0 0 0 0 false 0 0 0 0)
 unfolding core_step_of
 command_step = refl
 
 module _ (i : ℕ) (id_ok : command_ok i ≡ true) where
-  id_step : core_step_of (core await_command_id 0 0 0 0 0 false 0 0 0 0) i ≡ going (core await_length i 0 0 0 0 false 0 0 0 0)
+  id_step : core_step_of (core 1 0 0 0 0 0 false 0 0 0 0) i ≡ going (core 2 i 0 0 0 0 false 0 0 0 0)
   unfolding core_step_of
   id_step = rw id_ok
 
-  size_step : (n : ℕ) → eqb n 0 ≡ false → core_step_of (core await_length i 0 0 0 0 false 0 0 0 0) n ≡ going (core await_payload i n 0 0 0 false 0 0 0 0)
+  size_step : (n : ℕ) → eqb n 0 ≡ false → core_step_of (core 2 i 0 0 0 0 false 0 0 0 0) n ≡ going (core 3 i n 0 0 0 false 0 0 0 0)
   unfolding core_step_of
   size_step n some = rw (id_ok, some)
 
-  command_passes : (n : ℕ) → 0 < n → reachable_of (core await_payload i n 0 0 0 false 0 0 0 0) ≡ true
+  command_passes : (n : ℕ) → 0 < n → reachable_of (core 3 i n 0 0 0 false 0 0 0 0) ≡ true
   command_passes n some = rw (id_ok, lt-ltb 0 n some)
 
 -- the ten of a frame's
-frame_step : core_step_of fresh_core 0x21 ≡ going (core await_type 0 0 0 0 0 false 0 0 0 0)
+frame_step : core_step_of fresh_core 0x21 ≡ going (core 4 0 0 0 0 0 false 0 0 0 0)
 unfolding core_step_of
 frame_step = refl
 
 module _ (t : ℕ) (type_ok_lem : type_ok t ≡ true) where
-  type_step : core_step_of (core await_type 0 0 0 0 0 false 0 0 0 0) t ≡ going (core await_timestamp 0 0 0 t 0 false 0 0 0 0)
+  type_step : core_step_of (core 4 0 0 0 0 0 false 0 0 0 0) t ≡ going (core 5 0 0 0 t 0 false 0 0 0 0)
   unfolding core_step_of
   type_step = rw type_ok_lem
 
-  high_step : (h : ℕ) → core_step_of (core await_timestamp 0 0 0 t 0 false 0 0 0 0) h ≡ going (core await_timestamp 0 0 0 t (h * 256) true 0 0 0 0)
+  high_step : (h : ℕ) → core_step_of (core 5 0 0 0 t 0 false 0 0 0 0) h ≡ going (core 5 0 0 0 t (h * 256) true 0 0 0 0)
   unfolding core_step_of
   high_step h = rw type_ok_lem
 
-  low_step : (h l : ℕ) → core_step_of (core await_timestamp 0 0 0 t (h * 256) true 0 0 0 0) l ≡ going (core await_channel_and_speed 0 0 0 t (h * 256 + l) false 0 0 0 0)
+  low_step : (h l : ℕ) → core_step_of (core 5 0 0 0 t (h * 256) true 0 0 0 0) l ≡ going (core 6 0 0 0 t (h * 256 + l) false 0 0 0 0)
   unfolding core_step_of
   low_step h l = rw (type_ok_lem, whole_half h)
 
-  place_step : (w p : ℕ) → core_step_of (core await_channel_and_speed 0 0 0 t w false 0 0 0 0) p ≡ going (core await_region 0 0 0 t w false (p / 32) (p % 32) 0 0)
+  place_step : (w p : ℕ) → core_step_of (core 6 0 0 0 t w false 0 0 0 0) p ≡ going (core 7 0 0 0 t w false (p / 32) (p % 32) 0 0)
   unfolding core_step_of
   place_step w p = rw type_ok_lem
 
   module _ (w p : ℕ) (p_fits : p < 256) (g : ℕ) (region_ok_lem : region_ok g ≡ true) where
-    region_step : core_step_of (core await_region 0 0 0 t w false (p / 32) (p % 32) 0 0) g ≡ going (core await_rssi 0 0 0 t w false (p / 32) (p % 32) g 0)
+    region_step : core_step_of (core 7 0 0 0 t w false (p / 32) (p % 32) 0 0) g ≡ going (core 8 0 0 0 t w false (p / 32) (p % 32) g 0)
     unfolding core_step_of
     region_step = rw (type_ok_lem, top p p_fits, low p, region_ok_lem)
 
-    rssi_step : (r : ℕ) → core_step_of (core await_rssi 0 0 0 t w false (p / 32) (p % 32) g 0) r ≡ going (core await_startof_data_one 0 0 0 t w false (p / 32) (p % 32) g r)
+    rssi_step : (r : ℕ) → core_step_of (core 8 0 0 0 t w false (p / 32) (p % 32) g 0) r ≡ going (core 9 0 0 0 t w false (p / 32) (p % 32) g r)
     unfolding core_step_of
     rssi_step r = rw (type_ok_lem, top p p_fits, low p, region_ok_lem)
 
-    one_step : (r : ℕ) → core_step_of (core await_startof_data_one 0 0 0 t w false (p / 32) (p % 32) g r) 0x21 ≡ going (core await_startof_data_two 0 0 0 t w false (p / 32) (p % 32) g r)
+    one_step : (r : ℕ) → core_step_of (core 9 0 0 0 t w false (p / 32) (p % 32) g r) 0x21 ≡ going (core 10 0 0 0 t w false (p / 32) (p % 32) g r)
     unfolding core_step_of
     one_step r = rw (type_ok_lem, top p p_fits, low p, region_ok_lem)
 
-    two_step : (r : ℕ) → core_step_of (core await_startof_data_two 0 0 0 t w false (p / 32) (p % 32) g r) 0x03 ≡ going (core await_length 0 0 0 t w false (p / 32) (p % 32) g r)
+    two_step : (r : ℕ) → core_step_of (core 10 0 0 0 t w false (p / 32) (p % 32) g r) 0x03 ≡ going (core 2 0 0 0 t w false (p / 32) (p % 32) g r)
     unfolding core_step_of
     two_step r = rw (type_ok_lem, top p p_fits, low p, region_ok_lem)
 
-    length_step : (r n : ℕ) → eqb n 0 ≡ false → core_step_of (core await_length 0 0 0 t w false (p / 32) (p % 32) g r) n ≡ going (core await_payload 0 n 0 t w false (p / 32) (p % 32) g r)
+    length_step : (r n : ℕ) → eqb n 0 ≡ false → core_step_of (core 2 0 0 0 t w false (p / 32) (p % 32) g r) n ≡ going (core 3 0 n 0 t w false (p / 32) (p % 32) g r)
     unfolding core_step_of
     length_step r n some = rw (type_ok_lem, top p p_fits, low p, region_ok_lem, some)
 
-    frame_passes : (r n : ℕ) → 0 < n → reachable_of (core await_payload 0 n 0 t w false (p / 32) (p % 32) g r) ≡ true
+    frame_passes : (r n : ℕ) → 0 < n → reachable_of (core 3 0 n 0 t w false (p / 32) (p % 32) g r) ≡ true
     frame_passes r n some = rw (type_ok_lem, top p p_fits, low p, region_ok_lem, lt-ltb 0 n some)
 
 -- what a header says of the bytes that it begins: a run from a fresh parser goes on after it
@@ -92,7 +91,7 @@ pub record Heads (s : List ℕ) (h : Head) : Type 0 where
   pub small : h.size ≤ 10
   pub passes : reachable_of h.core ≡ true
   pub runs : core_run_from 0 s fresh_core ≡ core_run_from h.size (drop h.size s) h.core
-  pub waits : (h.size ≡ 0 → ⊥) → (h.core.state ≡ await_payload) × (h.core.count ≡ 0)
+  pub waits : (h.size ≡ 0 → ⊥) → (h.core.state ≡ 3) × (h.core.count ≡ 0)
 
 some_bytes : (n : ℕ) → not (eqb n 0) ≡ true → (eqb n 0 ≡ false) × (0 < n)
 some_bytes n e = let f = not-true (eqb n 0) e in let no' = eqb-false n 0 f in (f, omega (arith, no'))
@@ -102,7 +101,7 @@ module _ (s : List ℕ) (bytes : (k : ℕ) → get_or s k 0 < 256) where
   none_heads = record { within = omega arith; small = omega arith; passes = refl; runs = refl; waits = λ no'. absurd (no' refl) }
 
   -- the two bytes before a command's length
-  pub two_run : 2 ≤ length s → get_or s 0 0 ≡ 0x23 → command_ok (get_or s 1 0) ≡ true → core_run_from 0 s fresh_core ≡ core_run_from 2 (drop 2 s) (core await_length (get_or s 1 0) 0 0 0 0 false 0 0 0 0)
+  pub two_run : 2 ≤ length s → get_or s 0 0 ≡ 0x23 → command_ok (get_or s 1 0) ≡ true → core_run_from 0 s fresh_core ≡ core_run_from 2 (drop 2 s) (core 2 (get_or s 1 0) 0 0 0 0 false 0 0 0 0)
   two_run long start id_ok =
       on s 0 1 _ _ refl (omega (arith, long)) (ap (core_step_of fresh_core) start ∙ command_step) ∙ on s 1 2 _ _ refl (omega (arith, long)) (id_step (get_or s 1 0) id_ok)
 
@@ -124,7 +123,7 @@ module _ (s : List ℕ) (bytes : (k : ℕ) → get_or s k 0 < 256) where
 
   -- the nine bytes before a frame's length
   pub nine_run : 9 ≤ length s → get_or s 0 0 ≡ 0x21 → type_ok (get_or s 1 0) ≡ true → region_ok (get_or s 5 0) ≡ true → get_or s 7 0 ≡ 0x21 → get_or s 8 0 ≡ 0x03
-      → core_run_from 0 s fresh_core ≡ core_run_from 9 (drop 9 s) (core await_length 0 0 0 (get_or s 1 0) (get_or s 2 0 * 256 + get_or s 3 0) false (get_or s 4 0 / 32) (get_or s 4 0 % 32) (get_or s 5 0) (get_or s 6 0))
+      → core_run_from 0 s fresh_core ≡ core_run_from 9 (drop 9 s) (core 2 0 0 0 (get_or s 1 0) (get_or s 2 0 * 256 + get_or s 3 0) false (get_or s 4 0 / 32) (get_or s 4 0 % 32) (get_or s 5 0) (get_or s 6 0))
   nine_run long start type_ok_lem region_ok_lem one two =
       let t = get_or s 1 0 in let w = get_or s 2 0 * 256 + get_or s 3 0 in let p = get_or s 4 0 in let g = get_or s 5 0 in let r = get_or s 6 0 in
       on s 0 1 _ _ refl (omega (arith, long)) (ap (core_step_of fresh_core) start ∙ frame_step)
@@ -168,26 +167,26 @@ module _ (s : List ℕ) (bytes : (k : ℕ) → get_or s k 0 < 256) where
       (λ _. by_choice (Heads s) (leb 10 (length s) && eqb (get_or s 0 0) 0x21) frame_heads_lem (λ _. none_heads))
 
 -- a length of 0, which ends a command, or a frame's start
-pub no_bytes : (c : Core) → reachable_of c ≡ true → c.state ≡ await_length → (s : List ℕ) (a : ℕ) → a < length s → get_or s a 0 ≡ 0 → core_run_from a (drop a s) c ≡ record { core = fresh_core; result = ValidCommand c.command_id 0; used = a + 1 }
+pub no_bytes : (c : Core) → reachable_of c ≡ true → c.state ≡ 2 → (s : List ℕ) (a : ℕ) → a < length s → get_or s a 0 ≡ 0 → core_run_from a (drop a s) c ≡ record { core = fresh_core; result = ValidCommand c.command_id 0; used = a + 1 }
 no_bytes c h e s a in-s z =
     let b = get_or s a 0 in
-    let step : core_step_of c b ≡ done (ValidCommand c.command_id 0) = sym (taken c b h) ∙ sym (in_state await_length c b e) ∙ rw z in
+    let step : core_step_of c b ≡ done (ValidCommand c.command_id 0) = sym (taken c b h) ∙ sym (in_state 2 c b e) ∙ rw z in
     let stops : goes_on (core_step_of c b).result ≡ false = rw step in
     rw step at (run_last s a c _ refl in-s stops)
 
 -- a frame's header before its length passes the test
-pub headed_passes : (t w p g r : ℕ) → p < 256 → type_ok t ≡ true → region_ok g ≡ true → reachable_of (core await_length 0 0 0 t w false (p / 32) (p % 32) g r) ≡ true
+pub headed_passes : (t w p g r : ℕ) → p < 256 → type_ok t ≡ true → region_ok g ≡ true → reachable_of (core 2 0 0 0 t w false (p / 32) (p % 32) g r) ≡ true
 headed_passes t w p g r p_fits type_ok_lem region_ok_lem = rw (type_ok_lem, top p p_fits, low p, region_ok_lem)
 
 -- the numbers alone of a payload's last byte
-last_byte : (c : Core) (b : ℕ) → reachable_of c ≡ true → c.state ≡ await_payload → c.count + 1 ≡ c.length → core_step_of c b ≡ done (whole c)
-last_byte c b h e z = sym (taken c b h) ∙ sym (in_state await_payload c b e) ∙ simp (eq-eqb (c.count + 1) c.length z)
+last_byte : (c : Core) (b : ℕ) → reachable_of c ≡ true → c.state ≡ 3 → c.count + 1 ≡ c.length → core_step_of c b ≡ done (whole c)
+last_byte c b h e z = sym (taken c b h) ∙ sym (in_state 3 c b e) ∙ simp (eq-eqb (c.count + 1) c.length z)
 
 ends : (c : Core) → goes_on (whole c) ≡ false
 ends c = both (λ r. goes_on r ≡ false) (type_ok c.frame_type) refl refl
 
 -- a payload that is there to its last byte
-pub whole_payload : (c : Core) → reachable_of c ≡ true → c.state ≡ await_payload → (m : ℕ) → c.count + m ≡ c.length → (s : List ℕ) (a : ℕ) → a + m ≤ length s
+pub whole_payload : (c : Core) → reachable_of c ≡ true → c.state ≡ 3 → (m : ℕ) → c.count + m ≡ c.length → (s : List ℕ) (a : ℕ) → a + m ≤ length s
     → core_run_from a (drop a s) c ≡ record { core = fresh_core; result = whole c; used = a + m }
 whole_payload c h e m z s a long =
     let some = room c h e in let j = m - 1 in let i = a + j in let d = later c j in
@@ -210,11 +209,11 @@ whole_at_start s bytes some n e long =
 two_true : (a b : Bool) → (a && b) ≡ true → (a ≡ true) × (b ≡ true)
 two_true a b e = (left a b e, right a b e)
 
-pub idle_fresh : (c : Core) → reachable_of c ≡ true → c.state ≡ await_start_of_frame → c ≡ fresh_core
+pub idle_fresh : (c : Core) → reachable_of c ≡ true → c.state ≡ 0 → c ≡ fresh_core
 idle_fresh c h s =
     let all = two_true (quiet c) (unfilled c) (at_0 c h 0 (omega arith) s) in
     let filled = two_true (eqb c.length 0) (eqb c.count 0) all.1 in
-    let said = two_true (eqb c.command_id 0) (no_frame_yet c) all.0 in
+    let said = two_true (eqb c.command_id 0) (no_frame c) all.0 in
     let frame = two_true (eqb c.frame_type 0 && (eqb c.timestamp 0 && not c.timestamp_state)) (no_channel c) said.1 in
     let typed = two_true (eqb c.frame_type 0) (eqb c.timestamp 0 && not c.timestamp_state) frame.0 in
     let timed = two_true (eqb c.timestamp 0) (not c.timestamp_state) typed.1 in

@@ -1,11 +1,11 @@
 // The parser's numbers alone, from any numbers: a step, and a run over several bytes. Whoever needs no payload, or finds it in the
 // bytes that were given, runs these. Carried over from `zniffer_parser.rs`.
-ghost use Rattle.std.specs.Prelude.{◌≡◌, true, ◌≤◌, length, drop};
+ghost use Rattle.std.specs.Prelude.{◌≡◌, true, ◌+◌, ◌≤◌, ◌<◌, length, drop};
 ghost use Rattle.zniffer_tests.specs.Tests.{reachable_of};
 ghost use Rattle.zniffer_numbers.specs.Numbers.{fresh_core};
 ghost use Rattle.zniffer_core.specs.Run.{core_step_of, core_run_from};
 
-use zniffer_numbers::{AWAIT_PAYLOAD, AWAIT_START_OF_FRAME, Core, CoreStep, ParserResult};
+use zniffer_numbers::{Core, CoreStep, ParserResult};
 
 // What several bytes leave and give, and how many of them were used.
 #[derive(Drop)]
@@ -36,6 +36,12 @@ struct Ahead {
     pub at: usize,
 }
 
+fn smaller(a: usize, b: usize) -> usize
+    ensures { (result ≤ a) × (result ≤ b) }
+{
+    if a < b { a } else { b }
+}
+
 // Bytes that an idle parser ignores change nothing, and a payload's but the last the count alone: those from a place on are passed
 // over at once.
 fn skip_ahead(c: Core, s: &[u8], at: usize) -> Ahead
@@ -43,7 +49,7 @@ fn skip_ahead(c: Core, s: &[u8], at: usize) -> Ahead
     ensures { (result.at ≤ length s.now) × (at ≤ result.at) × (reachable_of result.core ≡ true)
         × (core_run_from at (drop at s.now) c ≡ core_run_from result.at (drop result.at s.now) result.core) }
 {
-    if c.state == AWAIT_START_OF_FRAME {
+    if c.state == 0 {
         let rest = &s[at..];
         let ignored = zniffer_starts::idle_bytes(rest);
         return Ahead {
@@ -51,10 +57,10 @@ fn skip_ahead(c: Core, s: &[u8], at: usize) -> Ahead
             at: at + ignored,
         };
     }
-    if c.state != AWAIT_PAYLOAD {
+    if c.state != 3 {
         return Ahead { core: c, at };
     }
-    let by = numbers::smaller((c.length - c.count - 1) as usize, s.len() - at);
+    let by = smaller((c.length - c.count - 1) as usize, s.len() - at);
     let mut next = c;
     next.count = c.count + (by as u8);
     Ahead {
@@ -97,6 +103,12 @@ fn run_reached(c: Core, s: &[u8]) -> CoreRan
     }
 }
 
+fn wide(x: u8) -> usize
+    ensures { (result ≡ x) × (result < 256) }
+{
+    x as usize
+}
+
 // Several bytes, from a fresh parser's numbers. A command or a frame that lies whole at their start, as nearly all do, is answered at
 // once.
 pub fn run_fresh(s: &[u8]) -> CoreRan
@@ -105,7 +117,7 @@ pub fn run_fresh(s: &[u8]) -> CoreRan
     let core = zniffer_numbers::fresh_core();
     let h = zniffer_starts::header_of(s);
     let c = h.core;
-    let used = h.size + numbers::wide(c.length);
+    let used = h.size + wide(c.length);
     let whole = (h.size != 0) & (used <= s.len());
     if !whole {
         return run_reached(core, s);
@@ -119,7 +131,7 @@ pub fn run_core(c: Core, s: &[u8]) -> CoreRan
     ensures { result ≡ core_run_from 0 s.now c }
 {
     if zniffer_tests::reachable(c) {
-        if c.state == AWAIT_START_OF_FRAME {
+        if c.state == 0 {
             return run_fresh(s);
         }
         return run_reached(c, s);

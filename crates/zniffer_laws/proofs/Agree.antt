@@ -8,7 +8,7 @@ use Rattle.zniffer_core.specs.declared.CoreRan.{CoreRan}
 use Rattle.zniffer_core.specs.Run.{core_run_from}
 use Rattle.zniffer.specs.declared.parser.Parser.{Parser}
 use Rattle.zniffer.specs.declared.parser.Ran.{Ran}
-use Rattle.zniffer.specs.Parse.{core_of, parser_step_of, run_from}
+use Rattle.zniffer.specs.Parse.{core_of, step_of, run_from}
 use Rattle.zniffer.proofs.Agree.{step_result, step_core}
 use Rattle.zniffer_laws.specs.Statements.{numbers}
 
@@ -20,5 +20,5 @@ pub run_agrees : (s : List ℕ) (k : ℕ) (p : Parser) → core_run_from k s (co
 unfolding run_from core_run_from
 run_agrees [] k p = refl
 run_agrees (b ∷ bs) k p =
-    rw (← step_result p b, ← step_core p b) (both (goes_on (parser_step_of p b).answer.result) (run_from (k + 1) bs (parser_step_of p b).parser)
-    (record { parser = (parser_step_of p b).parser; out = record { answer = (parser_step_of p b).answer; used = k + 1 } }) (run_agrees bs (k + 1) (parser_step_of p b).parser) refl)
+    rw (← step_result p b, ← step_core p b) (both (goes_on (step_of p b).answer.result) (run_from (k + 1) bs (step_of p b).parser)
+    (record { parser = (step_of p b).parser; out = record { answer = (step_of p b).answer; used = k + 1 } }) (run_agrees bs (k + 1) (step_of p b).parser) refl)

@@ -7,44 +7,43 @@ use mathlib.Core.Logic.{◌↔◌}
 use native.Mathlib.Omega.{arith}
 use native.Mathlib.Numerals.{add-one}
 use borrow.Author.Tests.{lt-ltb, ne_eqb, eqb-true, eqb-false, ltb-true, not-true}
-use Rattle.zniffer_numbers.specs.States.{await_start_of_frame, await_command_id, await_length, await_payload, await_type, await_timestamp, await_channel_and_speed, await_region, await_rssi, await_startof_data_one, await_startof_data_two}
 use Rattle.zniffer_numbers.specs.declared.Core.{Core}
 use Rattle.zniffer_numbers.specs.declared.CoreStep.{CoreStep}
-use Rattle.zniffer_tests.specs.Tests.{command_ok, type_ok, region_ok, unfilled, no_region, no_channel, no_frame_yet, typed, timed, placed, frame_headed, quiet, headed, reachable_of}
+use Rattle.zniffer_tests.specs.Tests.{command_ok, type_ok, region_ok, unfilled, no_region, no_channel, no_frame, typed, timed, placed, framed, quiet, headed, reachable_of}
 use Rattle.zniffer_numbers.specs.Numbers.{core}
 use Rattle.zniffer_states.specs.Step.{going}
 use Rattle.zniffer_core.specs.Run.{core_step_of}
-use Rattle.zniffer_laws.specs.Statements.{CoreReached, fresh_core_lem, byte_more, InType}
+use Rattle.zniffer_laws.specs.Statements.{Reached, fresh_core_lem, byte_more, InType}
 use Rattle.zniffer_core.proofs.RunLaws.{taken}
 use Rattle.zniffer_core.proofs.Kept.{kept, whole_half, at_0, at_1, at_2, at_3, at_4, at_5, at_6, at_7, at_8, at_9, at_10}
-use Rattle.lemmas.proofs.Choice.{left_true as left, right_true as right, either}
+use Rattle.choice.proofs.Choice.{left_true as left, right_true as right, either}
 
-pub passes : {c : Core} → CoreReached c → reachable_of c ≡ true
+pub passes : {c : Core} → Reached c → reachable_of c ≡ true
 passes fresh_core_lem = refl
 passes (byte_more {c} r b fits) = rw (taken c b (passes r)) (kept c b fits)
 
 -- the other way: bytes for each parser that passes the test
-step_to : {c d : Core} → CoreReached c → (b : ℕ) → b < 256 → (core_step_of c b).core ≡ d → CoreReached d
-step_to {c} r b fits e = subst CoreReached (ap (λ (t : CoreStep). t.core) (taken c b (passes r)) ∙ e) (byte_more r b fits)
+step_to : {c d : Core} → Reached c → (b : ℕ) → b < 256 → (core_step_of c b).core ≡ d → Reached d
+step_to {c} r b fits e = subst Reached (ap (λ (t : CoreStep). t.core) (taken c b (passes r)) ∙ e) (byte_more r b fits)
 
-to_1 : CoreReached (core await_command_id 0 0 0 0 0 false 0 0 0 0)
+to_1 : Reached (core 1 0 0 0 0 0 false 0 0 0 0)
 unfolding core_step_of
 to_1 = step_to fresh_core_lem 0x23 (omega arith) refl
 
-to_4 : CoreReached (core await_type 0 0 0 0 0 false 0 0 0 0)
+to_4 : Reached (core 4 0 0 0 0 0 false 0 0 0 0)
 unfolding core_step_of
 to_4 = step_to fresh_core_lem 0x21 (omega arith) refl
 
-to_2 : (i : ℕ) → command_ok i ≡ true → i < 256 → CoreReached (core await_length i 0 0 0 0 false 0 0 0 0)
+to_2 : (i : ℕ) → command_ok i ≡ true → i < 256 → Reached (core 2 i 0 0 0 0 false 0 0 0 0)
 unfolding core_step_of
 to_2 i ok fits = step_to to_1 i fits (rw ok)
 
 module _ (t : ℕ) (type_ok_lem : type_ok t ≡ true) (type_fits : t < 256) where
-  to_5 : CoreReached (core await_timestamp 0 0 0 t 0 false 0 0 0 0)
+  to_5 : Reached (core 5 0 0 0 t 0 false 0 0 0 0)
   unfolding core_step_of
   to_5 = step_to to_4 t type_fits (rw type_ok_lem)
 
-  to_5h : (k : ℕ) → k < 256 → CoreReached (core await_timestamp 0 0 0 t (k * 256) true 0 0 0 0)
+  to_5h : (k : ℕ) → k < 256 → Reached (core 5 0 0 0 t (k * 256) true 0 0 0 0)
   unfolding core_step_of
   to_5h k fits = step_to to_5 k fits (rw type_ok_lem)
 
@@ -52,12 +51,12 @@ module _ (t : ℕ) (type_ok_lem : type_ok t ≡ true) (type_fits : t < 256) wher
     both_halves : w / 256 * 256 + w % 256 ≡ w
     both_halves = omega arith
 
-    to_6 : CoreReached (core await_channel_and_speed 0 0 0 t w false 0 0 0 0)
+    to_6 : Reached (core 6 0 0 0 t w false 0 0 0 0)
     unfolding core_step_of
     to_6 = step_to (to_5h (w / 256) (omega arith)) (w % 256) (omega arith) (rw (type_ok_lem, whole_half (w / 256)) (rw both_halves))
 
     module _ (ch sp : ℕ) (ch_ok : ltb ch 8 ≡ true) (sp_ok : ltb sp 32 ≡ true) where
-      to_7 : CoreReached (core await_region 0 0 0 t w false ch sp 0 0)
+      to_7 : Reached (core 7 0 0 0 t w false ch sp 0 0)
       unfolding core_step_of
       to_7 =
           let lt = ltb-true ch 8 ch_ok in let lt' = ltb-true sp 32 sp_ok in
@@ -65,34 +64,34 @@ module _ (t : ℕ) (type_ok_lem : type_ok t ≡ true) (type_fits : t < 256) wher
           step_to to_6 (ch * 32 + sp) (omega arith) (rw type_ok_lem (rw (d, m)))
 
       module _ (g : ℕ) (region_ok_lem : region_ok g ≡ true) (g_fits : g < 256) where
-        to_8 : CoreReached (core await_rssi 0 0 0 t w false ch sp g 0)
+        to_8 : Reached (core 8 0 0 0 t w false ch sp g 0)
         unfolding core_step_of
         to_8 = step_to to_7 g g_fits (rw (type_ok_lem, ch_ok, sp_ok, region_ok_lem))
 
         module _ (r : ℕ) (r_fits : r < 256) where
-          to_9 : CoreReached (core await_startof_data_one 0 0 0 t w false ch sp g r)
+          to_9 : Reached (core 9 0 0 0 t w false ch sp g r)
           unfolding core_step_of
           to_9 = step_to to_8 r r_fits (rw (type_ok_lem, ch_ok, sp_ok, region_ok_lem))
 
-          to_10 : CoreReached (core await_startof_data_two 0 0 0 t w false ch sp g r)
+          to_10 : Reached (core 10 0 0 0 t w false ch sp g r)
           unfolding core_step_of
           to_10 = step_to to_9 0x21 (omega arith) (rw (type_ok_lem, ch_ok, sp_ok, region_ok_lem))
 
-          to_2f : CoreReached (core await_length 0 0 0 t w false ch sp g r)
+          to_2f : Reached (core 2 0 0 0 t w false ch sp g r)
           unfolding core_step_of
           to_2f = step_to to_10 0x03 (omega arith) (rw (type_ok_lem, ch_ok, sp_ok, region_ok_lem))
 
 -- a whole header, and then the payload's bytes, of which any will do
-module _ (i t w ch sp g r : ℕ) (ok : headed (core await_length i 0 0 t w false ch sp g r) ≡ true) (l : ℕ) where
-  pub length_step : 0 < l → core_step_of (core await_length i 0 0 t w false ch sp g r) l ≡ going (core await_payload i l 0 t w false ch sp g r)
+module _ (i t w ch sp g r : ℕ) (ok : headed (core 2 i 0 0 t w false ch sp g r) ≡ true) (l : ℕ) where
+  pub length_step : 0 < l → core_step_of (core 2 i 0 0 t w false ch sp g r) l ≡ going (core 3 i l 0 t w false ch sp g r)
   unfolding core_step_of
   length_step lt = rw (ok, ne_eqb l 0 (λ e. omega (arith, e, lt)))
 
-  pub payload_step : (n b : ℕ) → n + 1 < l → core_step_of (core await_payload i l n t w false ch sp g r) b ≡ going (core await_payload i l (n + 1) t w false ch sp g r)
+  pub payload_step : (n b : ℕ) → n + 1 < l → core_step_of (core 3 i l n t w false ch sp g r) b ≡ going (core 3 i l (n + 1) t w false ch sp g r)
   unfolding core_step_of
   payload_step n b lt = rw (ok, lt-ltb n l (omega (arith, lt)), ne_eqb (n + 1) l (λ e. omega (arith, e, lt)))
 
-  to_3 : CoreReached (core await_length i 0 0 t w false ch sp g r) → l < 256 → (n : ℕ) → n < l → CoreReached (core await_payload i l n t w false ch sp g r)
+  to_3 : Reached (core 2 i 0 0 t w false ch sp g r) → l < 256 → (n : ℕ) → n < l → Reached (core 3 i l n t w false ch sp g r)
   to_3 head l_fits zero lt = step_to head l l_fits (λ j. (length_step lt j).core)
   to_3 head l_fits (suc n) lt =
       let on : n + 1 < l = rw (add-one n) lt in
@@ -113,7 +112,7 @@ module _ (c : Core) where
       (eqb-true _ _ (left (eqb c.channel 0) (eqb c.speed 0) p), eqb-true _ _ (right (eqb c.channel 0) (eqb c.speed 0) p), z.0, z.1)
 
   -- a parser with no frame; with a frame's type and half of its time; with its time; with its channel; with its whole header
-  no_frame_is : no_frame_yet c ≡ true → (c.frame_type ≡ 0) × (c.timestamp ≡ 0) × (c.timestamp_state ≡ false) × (c.channel ≡ 0) × (c.speed ≡ 0) × (c.region ≡ 0) × (c.rssi ≡ 0)
+  no_frame_is : no_frame c ≡ true → (c.frame_type ≡ 0) × (c.timestamp ≡ 0) × (c.timestamp_state ≡ false) × (c.channel ≡ 0) × (c.speed ≡ 0) × (c.region ≡ 0) × (c.rssi ≡ 0)
   no_frame_is u =
       let first = left (eqb c.frame_type 0 && (eqb c.timestamp 0 && not c.timestamp_state)) (no_channel c) u in
       let time = right (eqb c.frame_type 0) (eqb c.timestamp 0 && not c.timestamp_state) first in
@@ -135,77 +134,77 @@ module _ (c : Core) where
       let t = timed_is (left (timed c) (ltb c.channel 8 && ltb c.speed 32) u) in let p = right (timed c) (ltb c.channel 8 && ltb c.speed 32) u in
       (t.0, t.1, left (ltb c.channel 8) (ltb c.speed 32) p, right (ltb c.channel 8) (ltb c.speed 32) p)
 
-  framed_is : frame_headed c ≡ true → (type_ok c.frame_type ≡ true) × (c.timestamp_state ≡ false) × (ltb c.channel 8 ≡ true) × (ltb c.speed 32 ≡ true) × (region_ok c.region ≡ true)
+  framed_is : framed c ≡ true → (type_ok c.frame_type ≡ true) × (c.timestamp_state ≡ false) × (ltb c.channel 8 ≡ true) × (ltb c.speed 32 ≡ true) × (region_ok c.region ≡ true)
   framed_is u = let p = placed_is (left (placed c) (region_ok c.region) u) in (p.0, p.1, p.2, p.3, right (placed c) (region_ok c.region) u)
 
 -- a parser that awaits a length after a frame start has no command's id
-pub no_id : (c : Core) → reachable_of c ≡ true → c.state ≡ await_length → type_ok c.frame_type ≡ true → c.command_id ≡ 0
+pub no_id : (c : Core) → reachable_of c ≡ true → c.state ≡ 2 → type_ok c.frame_type ≡ true → c.command_id ≡ 0
 no_id c h s t =
     let hd = left (headed c) (unfilled c) (at_2 c h 0 (omega arith) s) in
-    either (command_ok c.command_id && no_frame_yet c)
+    either (command_ok c.command_id && no_frame c)
     (λ yes'.
-    let z : type_ok 0 ≡ true = rw (no_frame_is c (right (command_ok c.command_id) (no_frame_yet c) yes')).0 at t in absurd (eqb-false 0 0 (sym z) refl))
-    (λ no'. let q : (eqb c.command_id 0 && frame_headed c) ≡ true = rw no' at hd in eqb-true c.command_id 0 (left (eqb c.command_id 0) (frame_headed c) q))
+    let z : type_ok 0 ≡ true = rw (no_frame_is c (right (command_ok c.command_id) (no_frame c) yes')).0 at t in absurd (eqb-false 0 0 (sym z) refl))
+    (λ no'. let q : (eqb c.command_id 0 && framed c) ≡ true = rw no' at hd in eqb-true c.command_id 0 (left (eqb c.command_id 0) (framed c) q))
 
 module _ (c : Core) (in_type : InType c) where
   -- a quiet parser in the state s
-  quiet_to : (s : ℕ) → CoreReached (core s 0 0 0 0 0 false 0 0 0 0) → c.state ≡ s → (quiet c && unfilled c) ≡ true → CoreReached c
+  quiet_to : (s : ℕ) → Reached (core s 0 0 0 0 0 false 0 0 0 0) → c.state ≡ s → (quiet c && unfilled c) ≡ true → Reached c
   quiet_to s r e q =
-      let f = no_frame_is c (right (eqb c.command_id 0) (no_frame_yet c) (left (quiet c) (unfilled c) q)) in
-      let i = eqb-true c.command_id 0 (left (eqb c.command_id 0) (no_frame_yet c) (left (quiet c) (unfilled c) q)) in
+      let f = no_frame_is c (right (eqb c.command_id 0) (no_frame c) (left (quiet c) (unfilled c) q)) in
+      let i = eqb-true c.command_id 0 (left (eqb c.command_id 0) (no_frame c) (left (quiet c) (unfilled c) q)) in
       let u = unfilled_is c (right (quiet c) (unfilled c) q) in
       let same : core s 0 0 0 0 0 false 0 0 0 0 ≡ c = sym (λ j. core (e j) (i j) (u.0 j) (u.1 j) (f.0 j) (f.1 j) (f.2 j) (f.3 j) (f.4 j) (f.5 j) (f.6 j)) in
-      subst CoreReached same r
+      subst Reached same r
 
   -- a frame's whole header
-  header : frame_headed c ≡ true → CoreReached (core await_length 0 0 0 c.frame_type c.timestamp false c.channel c.speed c.region c.rssi)
+  header : framed c ≡ true → Reached (core 2 0 0 0 c.frame_type c.timestamp false c.channel c.speed c.region c.rssi)
   header u =
       let f = framed_is c u in
       to_2f c.frame_type f.0 in_type.type c.timestamp in_type.timestamp c.channel c.speed f.2 f.3 c.region f.4 in_type.region c.rssi in_type.rssi
 
-  framed_to : (s : ℕ) → CoreReached (core s 0 0 0 c.frame_type c.timestamp false c.channel c.speed c.region c.rssi) → c.state ≡ s
-      → (eqb c.command_id 0 && (frame_headed c && unfilled c)) ≡ true → CoreReached c
+  framed_to : (s : ℕ) → Reached (core s 0 0 0 c.frame_type c.timestamp false c.channel c.speed c.region c.rssi) → c.state ≡ s
+      → (eqb c.command_id 0 && (framed c && unfilled c)) ≡ true → Reached c
   framed_to s r e q =
-      let rest = right (eqb c.command_id 0) (frame_headed c && unfilled c) q in
-      let i = eqb-true c.command_id 0 (left (eqb c.command_id 0) (frame_headed c && unfilled c) q) in
-      let u = unfilled_is c (right (frame_headed c) (unfilled c) rest) in let f = framed_is c (left (frame_headed c) (unfilled c) rest) in
+      let rest = right (eqb c.command_id 0) (framed c && unfilled c) q in
+      let i = eqb-true c.command_id 0 (left (eqb c.command_id 0) (framed c && unfilled c) q) in
+      let u = unfilled_is c (right (framed c) (unfilled c) rest) in let f = framed_is c (left (framed c) (unfilled c) rest) in
       let same : core s 0 0 0 c.frame_type c.timestamp false c.channel c.speed c.region c.rssi ≡ c =
       sym (λ j. core (e j) (i j) (u.0 j) (u.1 j) c.frame_type c.timestamp (f.1 j) c.channel c.speed c.region c.rssi) in
-      subst CoreReached same r
+      subst Reached same r
 
   -- the header of either kind, at the parser's own numbers, and that it is one
-  pub heads : headed c ≡ true → (CoreReached (core await_length c.command_id 0 0 c.frame_type c.timestamp false c.channel c.speed c.region c.rssi)) × (c.timestamp_state ≡ false)
+  pub heads : headed c ≡ true → (Reached (core 2 c.command_id 0 0 c.frame_type c.timestamp false c.channel c.speed c.region c.rssi)) × (c.timestamp_state ≡ false)
   heads h =
-      either (command_ok c.command_id && no_frame_yet c)
+      either (command_ok c.command_id && no_frame c)
       (λ yes'.
-      let f = no_frame_is c (right (command_ok c.command_id) (no_frame_yet c) yes') in
-      let same : core await_length c.command_id 0 0 0 0 false 0 0 0 0 ≡ core await_length c.command_id 0 0 c.frame_type c.timestamp false c.channel c.speed c.region c.rssi =
-      sym (λ j. core await_length c.command_id 0 0 (f.0 j) (f.1 j) false (f.3 j) (f.4 j) (f.5 j) (f.6 j)) in
-      (subst CoreReached same (to_2 c.command_id (left (command_ok c.command_id) (no_frame_yet c) yes') in_type.command), f.2))
+      let f = no_frame_is c (right (command_ok c.command_id) (no_frame c) yes') in
+      let same : core 2 c.command_id 0 0 0 0 false 0 0 0 0 ≡ core 2 c.command_id 0 0 c.frame_type c.timestamp false c.channel c.speed c.region c.rssi =
+      sym (λ j. core 2 c.command_id 0 0 (f.0 j) (f.1 j) false (f.3 j) (f.4 j) (f.5 j) (f.6 j)) in
+      (subst Reached same (to_2 c.command_id (left (command_ok c.command_id) (no_frame c) yes') in_type.command), f.2))
       (λ no'.
-      let q : (eqb c.command_id 0 && frame_headed c) ≡ true = rw no' at h in
-      let i = eqb-true c.command_id 0 (left (eqb c.command_id 0) (frame_headed c) q) in let u = right (eqb c.command_id 0) (frame_headed c) q in
-      let same : core await_length 0 0 0 c.frame_type c.timestamp false c.channel c.speed c.region c.rssi ≡ core await_length c.command_id 0 0 c.frame_type c.timestamp false c.channel c.speed c.region c.rssi =
-      sym (λ j. core await_length (i j) 0 0 c.frame_type c.timestamp false c.channel c.speed c.region c.rssi) in
-      (subst CoreReached same (header u), (framed_is c u).1))
+      let q : (eqb c.command_id 0 && framed c) ≡ true = rw no' at h in
+      let i = eqb-true c.command_id 0 (left (eqb c.command_id 0) (framed c) q) in let u = right (eqb c.command_id 0) (framed c) q in
+      let same : core 2 0 0 0 c.frame_type c.timestamp false c.channel c.speed c.region c.rssi ≡ core 2 c.command_id 0 0 c.frame_type c.timestamp false c.channel c.speed c.region c.rssi =
+      sym (λ j. core 2 (i j) 0 0 c.frame_type c.timestamp false c.channel c.speed c.region c.rssi) in
+      (subst Reached same (header u), (framed_is c u).1))
 
-  length_to : c.state ≡ await_length → (headed c && unfilled c) ≡ true → CoreReached c
+  length_to : c.state ≡ 2 → (headed c && unfilled c) ≡ true → Reached c
   length_to s q =
       let u = unfilled_is c (right (headed c) (unfilled c) q) in let r = heads (left (headed c) (unfilled c) q) in
-      let same : core await_length c.command_id 0 0 c.frame_type c.timestamp false c.channel c.speed c.region c.rssi ≡ c =
+      let same : core 2 c.command_id 0 0 c.frame_type c.timestamp false c.channel c.speed c.region c.rssi ≡ c =
       sym (λ j. core (s j) c.command_id (u.0 j) (u.1 j) c.frame_type c.timestamp (r.1 j) c.channel c.speed c.region c.rssi) in
-      subst CoreReached same r.0
+      subst Reached same r.0
 
-  payload_to : c.state ≡ await_payload → (headed c && ltb c.count c.length) ≡ true → CoreReached c
+  payload_to : c.state ≡ 3 → (headed c && ltb c.count c.length) ≡ true → Reached c
   payload_to s q =
       let hd = left (headed c) (ltb c.count c.length) q in let r = heads hd in
       let lt = ltb-true c.count c.length (right (headed c) (ltb c.count c.length) q) in
-      let ok : headed (core await_length c.command_id 0 0 c.frame_type c.timestamp false c.channel c.speed c.region c.rssi) ≡ true = rw r.1 at hd in
-      let same : core await_payload c.command_id c.length c.count c.frame_type c.timestamp false c.channel c.speed c.region c.rssi ≡ c =
+      let ok : headed (core 2 c.command_id 0 0 c.frame_type c.timestamp false c.channel c.speed c.region c.rssi) ≡ true = rw r.1 at hd in
+      let same : core 3 c.command_id c.length c.count c.frame_type c.timestamp false c.channel c.speed c.region c.rssi ≡ c =
       sym (λ j. core (s j) c.command_id c.length c.count c.frame_type c.timestamp (r.1 j) c.channel c.speed c.region c.rssi) in
-      subst CoreReached same (to_3 c.command_id c.frame_type c.timestamp c.channel c.speed c.region c.rssi ok c.length r.0 in_type.length c.count lt)
+      subst Reached same (to_3 c.command_id c.frame_type c.timestamp c.channel c.speed c.region c.rssi ok c.length r.0 in_type.length c.count lt)
 
-  type_to : c.state ≡ await_timestamp → (eqb c.command_id 0 && ((typed c && no_channel c) && unfilled c)) ≡ true → CoreReached c
+  type_to : c.state ≡ 5 → (eqb c.command_id 0 && ((typed c && no_channel c) && unfilled c)) ≡ true → Reached c
   type_to s q =
       let rest = right (eqb c.command_id 0) ((typed c && no_channel c) && unfilled c) q in
       let i = eqb-true c.command_id 0 (left (eqb c.command_id 0) ((typed c && no_channel c) && unfilled c) q) in
@@ -218,67 +217,67 @@ module _ (c : Core) (in_type : InType c) where
       (λ yes'.
       let m' : eqb (c.timestamp % 256) 0 ≡ true = simp or-false at (rw yes' at w) in let m = eqb-true (c.timestamp % 256) 0 m' in
       let back : c.timestamp ≡ c.timestamp / 256 * 256 = omega (arith, m) in
-      let same : core await_timestamp 0 0 0 c.frame_type (c.timestamp / 256 * 256) true 0 0 0 0 ≡ c =
+      let same : core 5 0 0 0 c.frame_type (c.timestamp / 256 * 256) true 0 0 0 0 ≡ c =
       sym (λ j. core (s j) (i j) (u.0 j) (u.1 j) c.frame_type (back j) (yes' j) (z.0 j) (z.1 j) (z.2 j) (z.3 j)) in
-      subst CoreReached same (to_5h c.frame_type t in_type.type (c.timestamp / 256) (omega arith)))
+      subst Reached same (to_5h c.frame_type t in_type.type (c.timestamp / 256) (omega arith)))
       (λ no'.
       let m' : eqb c.timestamp 0 ≡ true = rw no' at w in let m = eqb-true c.timestamp 0 m' in
-      let same : core await_timestamp 0 0 0 c.frame_type 0 false 0 0 0 0 ≡ c =
+      let same : core 5 0 0 0 c.frame_type 0 false 0 0 0 0 ≡ c =
       sym (λ j. core (s j) (i j) (u.0 j) (u.1 j) c.frame_type (m j) (no' j) (z.0 j) (z.1 j) (z.2 j) (z.3 j)) in
-      subst CoreReached same (to_5 c.frame_type t in_type.type))
+      subst Reached same (to_5 c.frame_type t in_type.type))
 
-  time_to : c.state ≡ await_channel_and_speed → (eqb c.command_id 0 && ((timed c && no_channel c) && unfilled c)) ≡ true → CoreReached c
+  time_to : c.state ≡ 6 → (eqb c.command_id 0 && ((timed c && no_channel c) && unfilled c)) ≡ true → Reached c
   time_to s q =
       let rest = right (eqb c.command_id 0) ((timed c && no_channel c) && unfilled c) q in
       let i = eqb-true c.command_id 0 (left (eqb c.command_id 0) ((timed c && no_channel c) && unfilled c) q) in
       let u = unfilled_is c (right (timed c && no_channel c) (unfilled c) rest) in let tc = left (timed c && no_channel c) (unfilled c) rest in
       let z = no_channel_is c (right (timed c) (no_channel c) tc) in let t = timed_is c (left (timed c) (no_channel c) tc) in
-      let same : core await_channel_and_speed 0 0 0 c.frame_type c.timestamp false 0 0 0 0 ≡ c =
+      let same : core 6 0 0 0 c.frame_type c.timestamp false 0 0 0 0 ≡ c =
       sym (λ j. core (s j) (i j) (u.0 j) (u.1 j) c.frame_type c.timestamp (t.1 j) (z.0 j) (z.1 j) (z.2 j) (z.3 j)) in
-      subst CoreReached same (to_6 c.frame_type t.0 in_type.type c.timestamp in_type.timestamp)
+      subst Reached same (to_6 c.frame_type t.0 in_type.type c.timestamp in_type.timestamp)
 
-  place_to : c.state ≡ await_region → (eqb c.command_id 0 && ((placed c && no_region c) && unfilled c)) ≡ true → CoreReached c
+  place_to : c.state ≡ 7 → (eqb c.command_id 0 && ((placed c && no_region c) && unfilled c)) ≡ true → Reached c
   place_to s q =
       let rest = right (eqb c.command_id 0) ((placed c && no_region c) && unfilled c) q in
       let i = eqb-true c.command_id 0 (left (eqb c.command_id 0) ((placed c && no_region c) && unfilled c) q) in
       let u = unfilled_is c (right (placed c && no_region c) (unfilled c) rest) in let pr = left (placed c && no_region c) (unfilled c) rest in
       let z = no_region_is c (right (placed c) (no_region c) pr) in let t = placed_is c (left (placed c) (no_region c) pr) in
-      let same : core await_region 0 0 0 c.frame_type c.timestamp false c.channel c.speed 0 0 ≡ c =
+      let same : core 7 0 0 0 c.frame_type c.timestamp false c.channel c.speed 0 0 ≡ c =
       sym (λ j. core (s j) (i j) (u.0 j) (u.1 j) c.frame_type c.timestamp (t.1 j) c.channel c.speed (z.0 j) (z.1 j)) in
-      subst CoreReached same (to_7 c.frame_type t.0 in_type.type c.timestamp in_type.timestamp c.channel c.speed t.2 t.3)
+      subst Reached same (to_7 c.frame_type t.0 in_type.type c.timestamp in_type.timestamp c.channel c.speed t.2 t.3)
 
-  region_to : c.state ≡ await_rssi → (eqb c.command_id 0 && ((frame_headed c && eqb c.rssi 0) && unfilled c)) ≡ true → CoreReached c
+  region_to : c.state ≡ 8 → (eqb c.command_id 0 && ((framed c && eqb c.rssi 0) && unfilled c)) ≡ true → Reached c
   region_to s q =
-      let rest = right (eqb c.command_id 0) ((frame_headed c && eqb c.rssi 0) && unfilled c) q in
-      let i = eqb-true c.command_id 0 (left (eqb c.command_id 0) ((frame_headed c && eqb c.rssi 0) && unfilled c) q) in
-      let u = unfilled_is c (right (frame_headed c && eqb c.rssi 0) (unfilled c) rest) in let fr = left (frame_headed c && eqb c.rssi 0) (unfilled c) rest in
-      let z = eqb-true c.rssi 0 (right (frame_headed c) (eqb c.rssi 0) fr) in let f = framed_is c (left (frame_headed c) (eqb c.rssi 0) fr) in
-      let same : core await_rssi 0 0 0 c.frame_type c.timestamp false c.channel c.speed c.region 0 ≡ c =
+      let rest = right (eqb c.command_id 0) ((framed c && eqb c.rssi 0) && unfilled c) q in
+      let i = eqb-true c.command_id 0 (left (eqb c.command_id 0) ((framed c && eqb c.rssi 0) && unfilled c) q) in
+      let u = unfilled_is c (right (framed c && eqb c.rssi 0) (unfilled c) rest) in let fr = left (framed c && eqb c.rssi 0) (unfilled c) rest in
+      let z = eqb-true c.rssi 0 (right (framed c) (eqb c.rssi 0) fr) in let f = framed_is c (left (framed c) (eqb c.rssi 0) fr) in
+      let same : core 8 0 0 0 c.frame_type c.timestamp false c.channel c.speed c.region 0 ≡ c =
       sym (λ j. core (s j) (i j) (u.0 j) (u.1 j) c.frame_type c.timestamp (f.1 j) c.channel c.speed c.region (z j)) in
-      subst CoreReached same (to_8 c.frame_type f.0 in_type.type c.timestamp in_type.timestamp c.channel c.speed f.2 f.3 c.region f.4 in_type.region)
+      subst Reached same (to_8 c.frame_type f.0 in_type.type c.timestamp in_type.timestamp c.channel c.speed f.2 f.3 c.region f.4 in_type.region)
 
-  data_to : (s : ℕ) → ((t : ℕ) → type_ok t ≡ true → t < 256 → (w : ℕ) → w < 65536 → (ch sp : ℕ) → ltb ch 8 ≡ true → ltb sp 32 ≡ true → (g : ℕ) → region_ok g ≡ true → g < 256 → (r : ℕ) → r < 256 → CoreReached (core s 0 0 0 t w false ch sp g r))
-      → c.state ≡ s → (eqb c.command_id 0 && (frame_headed c && unfilled c)) ≡ true → CoreReached c
+  data_to : (s : ℕ) → ((t : ℕ) → type_ok t ≡ true → t < 256 → (w : ℕ) → w < 65536 → (ch sp : ℕ) → ltb ch 8 ≡ true → ltb sp 32 ≡ true → (g : ℕ) → region_ok g ≡ true → g < 256 → (r : ℕ) → r < 256 → Reached (core s 0 0 0 t w false ch sp g r))
+      → c.state ≡ s → (eqb c.command_id 0 && (framed c && unfilled c)) ≡ true → Reached c
   data_to s to e q =
-      let f = framed_is c (left (frame_headed c) (unfilled c) (right (eqb c.command_id 0) (frame_headed c && unfilled c) q)) in
+      let f = framed_is c (left (framed c) (unfilled c) (right (eqb c.command_id 0) (framed c && unfilled c) q)) in
       framed_to s (to c.frame_type f.0 in_type.type c.timestamp in_type.timestamp c.channel c.speed f.2 f.3 c.region f.4 in_type.region c.rssi in_type.rssi) e q
 
   -- every parser of the type that passes the test
-  pub reached : reachable_of c ≡ true → CoreReached c
+  pub reached : reachable_of c ≡ true → Reached c
   reached h =
-      either (eqb c.state await_start_of_frame) (λ e. quiet_to await_start_of_frame fresh_core_lem (eqb-true _ _ e) (at_0 c h 0 (omega arith) (eqb-true _ _ e))) (λ e0.
-      either (eqb c.state await_command_id) (λ e. quiet_to await_command_id to_1 (eqb-true _ _ e) (at_1 c h 0 (omega arith) (eqb-true _ _ e))) (λ e1.
-      either (eqb c.state await_length) (λ e. length_to (eqb-true _ _ e) (at_2 c h 0 (omega arith) (eqb-true _ _ e))) (λ e2.
-      either (eqb c.state await_payload) (λ e. payload_to (eqb-true _ _ e) (at_3 c h 0 (omega arith) (eqb-true _ _ e))) (λ e3.
-      either (eqb c.state await_type) (λ e. quiet_to await_type to_4 (eqb-true _ _ e) (at_4 c h 0 (omega arith) (eqb-true _ _ e))) (λ e4.
-      either (eqb c.state await_timestamp) (λ e. type_to (eqb-true _ _ e) (at_5 c h 0 (omega arith) (eqb-true _ _ e))) (λ e5.
-      either (eqb c.state await_channel_and_speed) (λ e. time_to (eqb-true _ _ e) (at_6 c h 0 (omega arith) (eqb-true _ _ e))) (λ e6.
-      either (eqb c.state await_region) (λ e. place_to (eqb-true _ _ e) (at_7 c h 0 (omega arith) (eqb-true _ _ e))) (λ e7.
-      either (eqb c.state await_rssi) (λ e. region_to (eqb-true _ _ e) (at_8 c h 0 (omega arith) (eqb-true _ _ e))) (λ e8.
-      either (eqb c.state await_startof_data_one) (λ e. data_to await_startof_data_one to_9 (eqb-true _ _ e) (at_9 c h 0 (omega arith) (eqb-true _ _ e))) (λ e9.
-      either (eqb c.state await_startof_data_two) (λ e. data_to await_startof_data_two to_10 (eqb-true _ _ e) (at_10 c h 0 (omega arith) (eqb-true _ _ e))) (λ e10.
+      either (eqb c.state 0) (λ e. quiet_to 0 fresh_core_lem (eqb-true _ _ e) (at_0 c h 0 (omega arith) (eqb-true _ _ e))) (λ e0.
+      either (eqb c.state 1) (λ e. quiet_to 1 to_1 (eqb-true _ _ e) (at_1 c h 0 (omega arith) (eqb-true _ _ e))) (λ e1.
+      either (eqb c.state 2) (λ e. length_to (eqb-true _ _ e) (at_2 c h 0 (omega arith) (eqb-true _ _ e))) (λ e2.
+      either (eqb c.state 3) (λ e. payload_to (eqb-true _ _ e) (at_3 c h 0 (omega arith) (eqb-true _ _ e))) (λ e3.
+      either (eqb c.state 4) (λ e. quiet_to 4 to_4 (eqb-true _ _ e) (at_4 c h 0 (omega arith) (eqb-true _ _ e))) (λ e4.
+      either (eqb c.state 5) (λ e. type_to (eqb-true _ _ e) (at_5 c h 0 (omega arith) (eqb-true _ _ e))) (λ e5.
+      either (eqb c.state 6) (λ e. time_to (eqb-true _ _ e) (at_6 c h 0 (omega arith) (eqb-true _ _ e))) (λ e6.
+      either (eqb c.state 7) (λ e. place_to (eqb-true _ _ e) (at_7 c h 0 (omega arith) (eqb-true _ _ e))) (λ e7.
+      either (eqb c.state 8) (λ e. region_to (eqb-true _ _ e) (at_8 c h 0 (omega arith) (eqb-true _ _ e))) (λ e8.
+      either (eqb c.state 9) (λ e. data_to 9 to_9 (eqb-true _ _ e) (at_9 c h 0 (omega arith) (eqb-true _ _ e))) (λ e9.
+      either (eqb c.state 10) (λ e. data_to 10 to_10 (eqb-true _ _ e) (at_10 c h 0 (omega arith) (eqb-true _ _ e))) (λ e10.
       let no' : false ≡ true = rw (e0, e1, e4, e2, e5, e6, e7, e8, e9, e10, e3) at h in absurd (eqb-false 0 0 (sym no') refl))))))))))))
 
 -- the two ways together
-pub reachable_iff : (c : Core) → InType c → (reachable_of c ≡ true) ↔ CoreReached c
+pub reachable_iff : (c : Core) → InType c → (reachable_of c ≡ true) ↔ Reached c
 reachable_iff c in_type = (reached c in_type, passes)

@@ -3,13 +3,13 @@ use mathlib.Core.Path.{◌≡◌, refl}
 use native.Mathlib.Omega.{arith}
 use Rattle.zniffer_numbers.specs.declared.ParserResult.{ParserResult}
 use Rattle.zniffer_numbers.specs.declared.ParserResult.TheVariants.{ValidCommand, ValidFrame, IncompleteFrame, InvalidFrame}
-use Rattle.zniffer_numbers.specs.Told.{ResultTold, told_result}
+use Rattle.zniffer_numbers.specs.Told.{Told, told}
 
 -- two cases that have different numbers
-apart : {X : Type 0} (a b : ResultTold) → a ≡ b → (a.which ≡ b.which → ⊥) → X
+apart : {X : Type 0} (a b : Told) → a ≡ b → (a.which ≡ b.which → ⊥) → X
 apart a b e no' = absurd (no' (λ i. (e i).which))
 
-pub told_only : (a b : ParserResult) → told_result a ≡ told_result b → a ≡ b
+pub told_only : (a b : ParserResult) → told a ≡ told b → a ≡ b
 told_only IncompleteFrame IncompleteFrame e = refl
 told_only InvalidFrame InvalidFrame e = refl
 told_only (ValidCommand i n) (ValidCommand j m) e = λ x. ValidCommand (e x).id (e x).length

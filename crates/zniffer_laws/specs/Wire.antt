@@ -1,7 +1,7 @@
 -- Commands and frames as bytes, and what it is that a fresh parser gives them back.
 use Rattle.std.specs.Prelude.{ℕ, length, drop, List, ◌∷◌, ◌++◌}
 use Rattle.zniffer_numbers.specs.declared.ParserResult.{ParserResult}
-use Rattle.zniffer.specs.Parse.{no_payload, fresh_parser}
+use Rattle.zniffer.specs.Parse.{zeros, fresh_parser}
 use Rattle.zniffer.specs.declared.parser.Ran.{Ran}
 
 -- 0x23, the id, the length, the payload
@@ -14,4 +14,4 @@ frame_bytes t h l k g r bytes = 0x21 ∷ t ∷ h ∷ l ∷ k ∷ g ∷ r ∷ 0x2
 
 -- the result with its payload, zeros after it; every byte of s used; and a fresh parser
 abbrev pub given_back : List ℕ → ParserResult → List ℕ → Ran
-given_back s result bytes = record { parser = fresh_parser; out = record { answer = record { result = result; payload = bytes ++ drop (length bytes) no_payload }; used = length s } }
+given_back s result bytes = record { parser = fresh_parser; out = record { answer = record { result = result; payload = bytes ++ drop (length bytes) zeros }; used = length s } }

@@ -1,1 +1,1 @@
-mod Types
+mod Lies

@@ -1,7 +1,7 @@
 // The parser belongs to the caller, and every byte updates it in its place: a thin layer over the parser by value, in the
 // Rust's order.
 ghost use Rattle.std.specs.Prelude.{◌≡◌};
-ghost use Rattle.zniffer.specs.Parse.{fresh_parser, parser_step_of, run_from};
+ghost use Rattle.zniffer.specs.Parse.{fresh_parser, step_of, run_from};
 
 use zniffer::{Answer, Parser, Used, fresh, run, step};
 
@@ -16,7 +16,7 @@ pub fn parse_bytes(p: &mut Parser, input: &[u8]) -> Used
 
 // One byte.
 pub fn parse(p: &mut Parser, value: u8) -> Answer
-    ensures { (p.new ≡ (parser_step_of p.old value).parser) × (result ≡ (parser_step_of p.old value).answer) }
+    ensures { (p.new ≡ (step_of p.old value).parser) × (result ≡ (step_of p.old value).answer) }
 {
     let s = step(*p, value);
     *p = s.parser;

@@ -22,31 +22,9 @@ pub enum ParserResult {
     InvalidFrame,
 }
 
-// The states, by the names and in the order of the Rust's `ParserState`.
-pub const AWAIT_START_OF_FRAME: u8 = 0;
-
-pub const AWAIT_COMMAND_ID: u8 = 1;
-
-pub const AWAIT_LENGTH: u8 = 2;
-
-pub const AWAIT_PAYLOAD: u8 = 3;
-
-pub const AWAIT_TYPE: u8 = 4;
-
-pub const AWAIT_TIMESTAMP: u8 = 5;
-
-pub const AWAIT_CHANNEL_AND_SPEED: u8 = 6;
-
-pub const AWAIT_REGION: u8 = 7;
-
-pub const AWAIT_RSSI: u8 = 8;
-
-pub const AWAIT_START_OF_DATA_ONE: u8 = 9;
-
-pub const AWAIT_START_OF_DATA_TWO: u8 = 10;
-
-// `state` is one of these, `count` is how many bytes of the payload there are so far, and `timestamp_state` that the timestamp
-// lacks its low byte.
+// The states, in the Rust's order: 0 AwaitStartOfFrame, 1 AwaitCommandID, 2 AwaitLength, 3 AwaitPayload, 4 AwaitType,
+// 5 AwaitTimestamp, 6 AwaitChannelAndSpeed, 7 AwaitRegion, 8 AwaitRssi, 9 AwaitStartofDataOne, 10 AwaitStartofDataTwo.
+// `count` is how many bytes of the payload there are so far, and `timestamp_state` that the timestamp lacks its low byte.
 #[derive(Drop)]
 pub struct Core {
     pub state: u8,
@@ -72,7 +50,7 @@ pub fn fresh_core() -> Core
     ensures { result ≡ fresh_core }
 {
     Core {
-        state: AWAIT_START_OF_FRAME,
+        state: 0,
         command_id: 0,
         length: 0,
         count: 0,

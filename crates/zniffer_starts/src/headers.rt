@@ -3,7 +3,7 @@
 ghost use Rattle.std.specs.Prelude.{◌≡◌};
 ghost use Rattle.zniffer_starts.specs.Header.{no_head, command_head, frame_head, head_of};
 
-use zniffer_numbers::{AWAIT_PAYLOAD, Core, fresh_core};
+use zniffer_numbers::{Core, fresh_core};
 use zniffer_tests::{command_ok, region_ok, type_ok};
 
 // The numbers after a header, and how many bytes it has; a fresh parser's and 0 where there is none.
@@ -27,7 +27,7 @@ fn command_header(id: u8, length: u8) -> Head
         return no_header();
     }
     let mut core = fresh_core();
-    core.state = AWAIT_PAYLOAD;
+    core.state = 3;
     core.command_id = id;
     core.length = length;
     Head { core, size: 3 }
@@ -55,7 +55,7 @@ fn frame_header(
     }
     Head {
         core: Core {
-            state: AWAIT_PAYLOAD,
+            state: 3,
             command_id: 0,
             length,
             count: 0,

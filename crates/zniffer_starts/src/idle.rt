@@ -1,12 +1,12 @@
 // Bytes that an idle parser ignores: all but those that start a command or a frame.
 ghost use Rattle.std.specs.Prelude.{◌≡◌, true, ◌+◌, ◌≤◌, length};
-ghost use Rattle.zniffer_starts.specs.Idle.{is_start, Ignored, idle_of};
+ghost use Rattle.zniffer_starts.specs.Idle.{starts, Ignored, idle_of};
 
 // How many bytes are looked at together: the loop over so many becomes vector instructions.
 const BLOCK: usize = 32;
 
 fn starts_any(b: u8) -> bool
-    ensures { result ≡ is_start b }
+    ensures { result ≡ starts b }
 {
     (b == 0x23) | (b == 0x21)
 }

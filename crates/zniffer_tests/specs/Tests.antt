@@ -1,7 +1,6 @@
 -- Which numbers the Zniffer's bytes may be, and the test on a parser's numbers: whether some bytes from a fresh parser leave them.
 -- That the test says just this is `test_says_left` of zniffer_laws/proofs/Theorems.antt.
 use Rattle.std.specs.Prelude.{ℕ, ◌%◌, ltb, leb, eqb, Bool, not, ◌&&◌, ◌||◌}
-use Rattle.zniffer_numbers.specs.States.{await_start_of_frame, await_command_id, await_length, await_payload, await_type, await_timestamp, await_channel_and_speed, await_region, await_rssi, await_startof_data_one, await_startof_data_two}
 use Rattle.zniffer_numbers.specs.declared.Core.{Core}
 
 -- "Command ids are 1, 2, 3, 4, 5, 14, 19"
@@ -26,8 +25,8 @@ no_region c = eqb c.region 0 && eqb c.rssi 0
 abbrev pub no_channel : Core → Bool
 no_channel c = (eqb c.channel 0 && eqb c.speed 0) && no_region c
 
-abbrev pub no_frame_yet : Core → Bool
-no_frame_yet c = (eqb c.frame_type 0 && (eqb c.timestamp 0 && not c.timestamp_state)) && no_channel c
+abbrev pub no_frame : Core → Bool
+no_frame c = (eqb c.frame_type 0 && (eqb c.timestamp 0 && not c.timestamp_state)) && no_channel c
 
 -- a frame with its type and no more than the first byte of its timestamp; with both; with its channel and speed; with its region
 abbrev pub typed : Core → Bool
@@ -39,24 +38,24 @@ timed c = type_ok c.frame_type && not c.timestamp_state
 abbrev pub placed : Core → Bool
 placed c = timed c && (ltb c.channel 8 && ltb c.speed 32)
 
-abbrev pub frame_headed : Core → Bool
-frame_headed c = placed c && region_ok c.region
+abbrev pub framed : Core → Bool
+framed c = placed c && region_ok c.region
 
 -- no command's id, and all else zero; a command's id, or a whole frame's header
 abbrev pub quiet : Core → Bool
-quiet c = eqb c.command_id 0 && no_frame_yet c
+quiet c = eqb c.command_id 0 && no_frame c
 
 abbrev pub headed : Core → Bool
-headed c = (command_ok c.command_id && no_frame_yet c) || (eqb c.command_id 0 && frame_headed c)
+headed c = (command_ok c.command_id && no_frame c) || (eqb c.command_id 0 && framed c)
 
--- what the numbers are in each state: nothing yet, a header, a frame's header so far, a header and less than the whole payload
+-- what the numbers are in each state: 0, 1 and 4 have nothing yet; 2 has a header; 5 to 10 have a frame's header so far; 3 has a header, and less than the whole payload
 abbrev pub reachable_of : Core → Bool
 reachable_of c =
-    (((eqb c.state await_start_of_frame || (eqb c.state await_command_id || eqb c.state await_type)) && (quiet c && unfilled c))
-    || ((eqb c.state await_length && (headed c && unfilled c))
-    || ((eqb c.state await_timestamp && (eqb c.command_id 0 && ((typed c && no_channel c) && unfilled c)))
-    || ((eqb c.state await_channel_and_speed && (eqb c.command_id 0 && ((timed c && no_channel c) && unfilled c)))
-    || ((eqb c.state await_region && (eqb c.command_id 0 && ((placed c && no_region c) && unfilled c)))
-    || ((eqb c.state await_rssi && (eqb c.command_id 0 && ((frame_headed c && eqb c.rssi 0) && unfilled c)))
-    || (((eqb c.state await_startof_data_one || eqb c.state await_startof_data_two) && (eqb c.command_id 0 && (frame_headed c && unfilled c)))
-    || (eqb c.state await_payload && (headed c && ltb c.count c.length)))))))))
+    (((eqb c.state 0 || (eqb c.state 1 || eqb c.state 4)) && (quiet c && unfilled c))
+    || ((eqb c.state 2 && (headed c && unfilled c))
+    || ((eqb c.state 5 && (eqb c.command_id 0 && ((typed c && no_channel c) && unfilled c)))
+    || ((eqb c.state 6 && (eqb c.command_id 0 && ((timed c && no_channel c) && unfilled c)))
+    || ((eqb c.state 7 && (eqb c.command_id 0 && ((placed c && no_region c) && unfilled c)))
+    || ((eqb c.state 8 && (eqb c.command_id 0 && ((framed c && eqb c.rssi 0) && unfilled c)))
+    || (((eqb c.state 9 || eqb c.state 10) && (eqb c.command_id 0 && (framed c && unfilled c)))
+    || (eqb c.state 3 && (headed c && ltb c.count c.length)))))))))

@@ -2,11 +2,7 @@
 ghost use Rattle.std.specs.Prelude.{◌≡◌};
 ghost use Rattle.zniffer_tests.specs.Tests.{command_ok, type_ok, region_ok, reachable_of};
 
-use zniffer_numbers::{
-    AWAIT_CHANNEL_AND_SPEED, AWAIT_COMMAND_ID, AWAIT_LENGTH, AWAIT_PAYLOAD, AWAIT_REGION,
-    AWAIT_RSSI, AWAIT_START_OF_DATA_ONE, AWAIT_START_OF_DATA_TWO, AWAIT_START_OF_FRAME,
-    AWAIT_TIMESTAMP, AWAIT_TYPE, Core,
-};
+use zniffer_numbers::Core;
 
 // The ids of commands, the types of frames, and the regions that are known.
 pub fn command_ok(value: u8) -> bool
@@ -39,7 +35,7 @@ pub fn reachable(c: Core) -> bool
     let no_frame = ((c.frame_type == 0) & ((c.timestamp == 0) & !c.timestamp_state)) & no_channel;
     let no_command = c.command_id == 0;
     let quiet = no_command & no_frame;
-    if c.state == AWAIT_START_OF_FRAME {
+    if c.state == 0 {
         return quiet & unfilled;
     }
     let command_known = command_ok(c.command_id);
@@ -52,18 +48,14 @@ pub fn reachable(c: Core) -> bool
     let placed = timed & ((c.channel < 8) & (c.speed < 32));
     let framed = placed & region_known;
     let headed = (command_known & no_frame) | (no_command & framed);
-    let at_start = ((c.state == AWAIT_START_OF_FRAME)
-        | ((c.state == AWAIT_COMMAND_ID) | (c.state == AWAIT_TYPE)))
-        & (quiet & unfilled);
-    let at_length = (c.state == AWAIT_LENGTH) & (headed & unfilled);
-    let at_time = (c.state == AWAIT_TIMESTAMP) & (no_command & ((typed & no_channel) & unfilled));
-    let at_channel = (c.state == AWAIT_CHANNEL_AND_SPEED)
-        & (no_command & ((timed & no_channel) & unfilled));
-    let at_region = (c.state == AWAIT_REGION) & (no_command & ((placed & no_region) & unfilled));
-    let at_rssi = (c.state == AWAIT_RSSI) & (no_command & ((framed & (c.rssi == 0)) & unfilled));
-    let at_data = ((c.state == AWAIT_START_OF_DATA_ONE) | (c.state == AWAIT_START_OF_DATA_TWO))
-        & (no_command & (framed & unfilled));
-    let at_payload = (c.state == AWAIT_PAYLOAD) & (headed & (c.count < c.length));
+    let at_start = ((c.state == 0) | ((c.state == 1) | (c.state == 4))) & (quiet & unfilled);
+    let at_length = (c.state == 2) & (headed & unfilled);
+    let at_time = (c.state == 5) & (no_command & ((typed & no_channel) & unfilled));
+    let at_channel = (c.state == 6) & (no_command & ((timed & no_channel) & unfilled));
+    let at_region = (c.state == 7) & (no_command & ((placed & no_region) & unfilled));
+    let at_rssi = (c.state == 8) & (no_command & ((framed & (c.rssi == 0)) & unfilled));
+    let at_data = ((c.state == 9) | (c.state == 10)) & (no_command & (framed & unfilled));
+    let at_payload = (c.state == 3) & (headed & (c.count < c.length));
     at_start
         | (at_length | (at_time | (at_channel | (at_region | (at_rssi | (at_data | at_payload))))))
 }

@@ -2,7 +2,7 @@
 use Prim.Native.Nat.{◌+◌, ◌*◌}
 use mathlib.Core.Option.{some}
 use mathlib.Core.Path.{◌≡◌, ap, sym, ◌∙◌}
-use Rattle.calendar.specs.Calendar.{day_millis, millis_to}
+use Rattle.calendar.specs.Calendar.{per_day, millis_to}
 use borrow.Author.Tests.{not-true, not-false}
 use Rattle.calendar.proofs.Days.{bad_day, bad_time, good_date}
 use borrow.Author.Rules.{rules}
@@ -40,7 +40,7 @@ returns_3 c =
     let d = c.before.before.before.before.before.before.args.d in
     let days = c.before.days_to.ensures.0 in
     let time = c.time_of.ensures.0 in
-    let same : day_millis * c.before.days_to.result + c.time_of.result ≡ millis_to d = cc in
+    let same : per_day * c.before.days_to.result + c.time_of.result ≡ millis_to d = cc in
     ap some same ∙ good_date d (sym c.before.before.before.before.before.is_day.ensures.0 ∙ not-false _ c.before.before.before.before.if1.false)
     (sym c.before.before.before.is_time.ensures.0 ∙ not-false _ c.before.before.if2.false)
 

@@ -5,7 +5,7 @@ use mathlib.Core.Path.{◌≡◌, refl, sym, ◌∙◌}
 use native.Mathlib.Omega.{arith}
 use borrow.Author.Rules.{rules}
 use borrow.Author.Tests.{lt-ltb}
-use Rattle.calendar.specs.Calendar.{days_before, first_passing, next_month_after, months_gone}
+use Rattle.calendar.specs.Calendar.{days_before, first_from, next_month_after, months_gone}
 use Rattle.calendar.proofs.Searching.{here, last}
 use Rattle.calendar.proofs.Months.{none_before, month_on}
 use Rattle.calendar.proofs.months_gone.Statement.{statement}
@@ -13,7 +13,7 @@ use Rattle.calendar.proofs.months_gone.Tie as tie
 
 abbrev invariant-loop : tie.invariant-loop
 invariant-loop leap day m₀ m =
-    (m ≤ 11) × (days_before leap m ≤ day) × (months_gone leap day ≡ first_passing (next_month_after leap day) (11 - m) m)
+    (m ≤ 11) × (days_before leap m ≤ day) × (months_gone leap day ≡ first_from (next_month_after leap day) (11 - m) m)
 
 abbrev decreases-loop : tie.decreases-loop
 decreases-loop leap day m₀ m = 11 - m

@@ -1,5 +1,5 @@
 -- `line_at` meets its contract: it is safe and ends, and its places are in order. Assumes nothing.
-use Rattle.std.proofs.Common.{◌-◌, ◌≤◌, length, rules}
+use Rattle.std.proofs.Common.{◌≡◌, ◌+◌, ◌-◌, ◌<◌, ◌≤◌, length, rules}
 use Rattle.figures.proofs.line_at.Statement.{statement}
 use Rattle.figures.proofs.line_at.Tie as tie
 

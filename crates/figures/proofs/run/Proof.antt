@@ -1,5 +1,5 @@
 -- `run` meets its contract: it is safe and ends. Assumes nothing.
-use Rattle.std.proofs.Common.{◌≡◌, ◌-◌, ◌≤◌, length, rules}
+use Rattle.std.proofs.Common.{◌≡◌, ◌+◌, ◌-◌, ◌<◌, ◌≤◌, length, rules}
 use Rattle.figures.proofs.run.Statement.{statement}
 use Rattle.figures.proofs.run.Tie as tie
 

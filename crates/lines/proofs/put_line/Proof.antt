@@ -7,8 +7,8 @@ use Rattle.lines.proofs.put_line.Tie as tie
 put_byte_requires : tie.Need-put-byte-requires
 put_byte_requires c κs = search rules
 
-put_fields_requires : tie.Need-put-fields-requires
-put_fields_requires c κs = search rules
+put_field_requires : tie.Need-put-field-requires
+put_field_requires c κs = search rules
 
 put_byte_requires_2 : tie.Need-put-byte-requires-2
 put_byte_requires_2 c κs = search rules
@@ -17,9 +17,9 @@ same_length : tie.Need-same-length
 same_length c = search rules
 
 returns : tie.Need-returns
-returns c = line c.before.before.before.before.before.before.before.before.before.before.put_byte.ensures c.before.before.before.before.before.before.put_fields.ensures c.before.before.put_byte2.ensures
+returns c = line c.before.before.before.before.before.before.before.before.before.before.put_byte.ensures c.before.before.before.before.before.before.put_field.ensures c.before.before.put_byte2.ensures
 
 pub put_line_spec : {M : Type 1} → statement M
 put_line_spec =
     tie.close
-    (tie.spec put_byte_requires put_fields_requires put_byte_requires_2 same_length returns)
+    (tie.spec put_byte_requires put_field_requires put_byte_requires_2 same_length returns)

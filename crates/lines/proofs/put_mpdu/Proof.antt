@@ -5,8 +5,8 @@ use borrow.Author.Rules.{rules}
 use Rattle.lines.proofs.put_mpdu.Statement.{statement}
 use Rattle.lines.proofs.put_mpdu.Tie as tie
 
-from_i8_requires : tie.Need-from-i8-requires
-from_i8_requires c κs = search rules
+signed_requires : tie.Need-signed-requires
+signed_requires c κs = search rules
 
 put_signed_field_requires : tie.Need-put-signed-field-requires
 put_signed_field_requires c κs = search rules
@@ -31,7 +31,7 @@ returns c =
     let r = c.before.before.before.before.before.before.before.before.before.before.before.before.before.before.before.before.before.before.before.before.args.r in
     let told = c.before.before.before.before.before.before.before.before.before.before.before.before.before.before.before.before.before.struct_told.given in
     fields
-    (same_field (widened c.before.before.before.before.before.before.before.before.before.before.before.before.before.before.before.before.from_i8.result r.rssi (record { sfits = told.1.1.1.1.1.1.1.1.0.1 }) c.before.before.before.before.before.before.before.before.before.before.before.before.before.before.before.before.from_i8.ensures)
+    (same_field (widened c.before.before.before.before.before.before.before.before.before.before.before.before.before.before.before.before.signed.result r.rssi (record { sfits = told.1.1.1.1.1.1.1.1.0.1 }) c.before.before.before.before.before.before.before.before.before.before.before.before.before.before.before.before.signed.ensures)
     c.before.before.before.before.before.before.before.before.before.before.before.before.before.before.before.put_signed_field.ensures)
     (fields c.before.before.before.before.before.before.before.before.before.before.put_field.ensures (fields c.before.before.before.before.before.before.put_field2.ensures c.before.before.put_field3.ensures))
 
@@ -39,7 +39,7 @@ pub put_mpdu_spec : {M : Type 1} → statement M
 put_mpdu_spec =
     tie.close
     (tie.spec
-    from_i8_requires
+    signed_requires
     put_signed_field_requires
     cast_put_field
     put_field_requires

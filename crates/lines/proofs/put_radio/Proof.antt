@@ -41,9 +41,9 @@ same_length c = search rules
 returns : tie.Need-returns
 returns c =
     fields (same_field (ap (λ (d : ℕ). d ∷ []) c.before.before.before.before.before.before.before.before.before.before.before.before.before.before.before.before.before.before.side.ensures) (field c.before.before.before.before.before.before.before.before.before.before.before.before.before.before.before.before.before.before.before.before.before.before.put_byte.ensures c.before.before.before.before.before.before.before.before.before.before.before.before.before.before.before.before.before.put_byte2.ensures))
-    (fields (same_field (ap decimal_text c.before.before.before.before.before.before.before.before.before.before.before.before.before.wide.ensures.0) c.before.before.before.before.before.before.before.before.before.before.before.before.put_field.ensures)
-    (fields (same_field (ap decimal_text c.before.before.before.before.before.before.before.before.wide2.ensures.0) c.before.before.before.before.before.before.before.put_field2.ensures)
-    (same_field (ap decimal_text c.before.before.before.wide3.ensures.0) c.before.before.put_field3.ensures)))
+    (fields (same_field (ap decimal_text c.before.before.before.before.before.before.before.before.before.before.before.before.before.wide.ensures) c.before.before.before.before.before.before.before.before.before.before.before.before.put_field.ensures)
+    (fields (same_field (ap decimal_text c.before.before.before.before.before.before.before.before.wide2.ensures) c.before.before.before.before.before.before.before.put_field2.ensures)
+    (same_field (ap decimal_text c.before.before.before.wide3.ensures) c.before.before.put_field3.ensures)))
 
 pub put_radio_spec : {M : Type 1} → statement M
 put_radio_spec =

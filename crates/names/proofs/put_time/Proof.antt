@@ -1,6 +1,6 @@
 -- `names::put_time` meets its contract. Assumes nothing.
 use mathlib.Core.Path.{ap, ◌∙◌}
-use Rattle.timestamps.specs.Written.{iso_text}
+use Rattle.written.specs.Written.{iso_text}
 use Rattle.text.proofs.Puts.{renamed}
 use Rattle.names.proofs.Texts.{dated, undated}
 use borrow.Author.Rules.{rules}

@@ -1,16 +1,15 @@
 -- `paging::count_rows` meets its contract. The invariant: the rows counted and those still to be taken from the place reached are the page's, and no
 -- more are counted than bytes are passed. The measure is what is left of the trace. Assumes nothing.
-use Prim.Native.Nat.{◌-◌, ◌≤◌}
+use Prim.Native.Nat.{◌+◌, ◌-◌, ◌≤◌}
 use native.Mathlib.Omega.{arith}
 use lib.ListN.{length}
-use mathlib.Core.Path.{◌≡◌, sym, ap, ◌∙◌}
+use mathlib.Core.Path.{◌≡◌, refl, sym, ap, ◌∙◌}
 use borrow.Author.Rules.{rules}
 use Rattle.record.proofs.Answers.{not_valid, next_none}
 use Rattle.record.proofs.Valid.{record_steps}
 use Rattle.record.specs.Record.{plausible, next_at}
 use Rattle.rows.specs.Rows.{rows_at}
-use Rattle.row_steps.proofs.Payloads.{frames_of, payload_length}
-use Rattle.record.proofs.Headers.{header}
+use Rattle.steps.proofs.Headers.{header, frames_of, payload_length}
 use Rattle.paging.proofs.Counting.{Counts, begins, stops, full, adds, rows_length, rows_most}
 use Rattle.paging.proofs.count_rows.Statement.{statement}
 use Rattle.paging.proofs.count_rows.Tie as tie
@@ -39,7 +38,9 @@ returns c =
     (next_none plausible kinds s l.at _ c.before.read_record.ensures c.before.before.before.before.before.requires.0 (not_valid c.before.read_record.result c.match.keys2))
 
 rows_in_requires : tie.Need-rows-in-requires invariant-loop decreases-loop
-rows_in_requires c κs = search rules
+rows_in_requires c κs =
+    let a = c.before.before.before.before.before.before.before.args in let l = c.before.before.before.before.before.loop in
+    (header a.kinds.now a.s.now l.at c.before.before.before.read_record.result c.before.before.before.read_record.ensures _ c.before.header.given.1).inside
 
 add_total : tie.Need-overflow-add-total invariant-loop decreases-loop
 add_total c =

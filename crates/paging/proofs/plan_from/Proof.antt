@@ -1,5 +1,5 @@
 -- `paging::plan_from` meets its contract. Assumes nothing.
-use mathlib.Core.Path.{refl, ap}
+use mathlib.Core.Path.{refl, sym, ap, ◌∙◌}
 use lib.ListN.{length}
 use Rattle.record.specs.Record.{plausible, next_at}
 use Rattle.rows.specs.Rows.{rows_at}

@@ -1,5 +1,5 @@
 -- `paging::plan_page` meets its contract. Assumes nothing.
-use mathlib.Core.Path.{sym, ap, ◌∙◌}
+use mathlib.Core.Path.{refl, sym, ap, ◌∙◌}
 use Rattle.resync.specs.Search.{told_search}
 use Rattle.paging.specs.Page.{told_page}
 use Rattle.paging.proofs.Planning.{when_found, found_inside, when_nothing}

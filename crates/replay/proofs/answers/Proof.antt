@@ -1,5 +1,5 @@
 -- `replay::answers` meets its contract: it is safe and ends. Assumes nothing.
-use Rattle.std.proofs.Common.{◌≡◌, ◌-◌, ◌≤◌, length, rules}
+use Rattle.std.proofs.Common.{◌≡◌, ◌+◌, ◌-◌, ◌<◌, ◌≤◌, length, rules}
 use Rattle.replay.proofs.answers.Statement.{statement}
 use Rattle.replay.proofs.answers.Tie as tie
 

@@ -6,7 +6,7 @@ use lib.ListN.{length}
 use mathlib.Core.Path.{◌≡◌, refl, sym, ap, ◌∙◌}
 use borrow.Author.Rules.{rules}
 use Rattle.bracket.proofs.Splitting.{body_inside, next_further, next_inside}
-use Rattle.rows.specs.Frames.{pti_from, first_frame}
+use Rattle.rows.specs.Frames.{pti_from, first_of}
 use Rattle.rows.proofs.Pti.{past_end, no_body, is_frame, is_nothing, mpdu_fits}
 use Rattle.rows.proofs.next_pti.Statement.{statement}
 use Rattle.rows.proofs.next_pti.Tie as tie
@@ -32,7 +32,7 @@ enum_told c = search rules
 
 returns : tie.Need-returns invariant-loop decreases-loop
 returns c =
-    ap first_frame (sym (sym c.before.before.before.before.loop.invariant ∙ no_body _ _ (sym c.before.before.next_record.ensures ∙ c.enum_told.given.1)))
+    ap first_of (sym (sym c.before.before.before.before.loop.invariant ∙ no_body _ _ (sym c.before.before.next_record.ensures ∙ c.enum_told.given.1)))
 
 add_end : tie.Need-overflow-add-end invariant-loop decreases-loop
 add_end c =
@@ -77,7 +77,7 @@ loop_again c =
 
 returns_3 : tie.Need-returns-3 invariant-loop decreases-loop
 returns_3 c =
-    ap first_frame (sym (sym c.before.loop.invariant ∙ past_end _ _ (omega arith)))
+    ap first_of (sym (sym c.before.loop.invariant ∙ past_end _ _ (omega arith)))
 
 pub next_pti_spec : {M : Type 1} → statement M
 next_pti_spec =

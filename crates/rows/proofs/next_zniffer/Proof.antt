@@ -5,7 +5,7 @@ use native.Mathlib.Omega.{arith}
 use lib.ListN.{length}
 use mathlib.Core.Path.{◌≡◌, refl, sym, ap, ◌∙◌}
 use borrow.Author.Rules.{rules}
-use Rattle.rows.specs.Frames.{zniffer_from, first_frame}
+use Rattle.rows.specs.Frames.{zniffer_from, first_of}
 use Rattle.rows.proofs.Zniffer.{past_end, code_inside, code_further, incomplete, a_frame, passed}
 use Rattle.rows.proofs.next_zniffer.Statement.{statement}
 use Rattle.rows.proofs.next_zniffer.Tie as tie
@@ -63,7 +63,7 @@ loop_again c =
 
 returns_3 : tie.Need-returns-3 invariant-loop decreases-loop
 returns_3 c =
-    ap first_frame (sym (sym c.before.loop.invariant ∙ past_end _ _ _ (omega arith)))
+    ap first_of (sym (sym c.before.loop.invariant ∙ past_end _ _ _ (omega arith)))
 
 pub next_zniffer_spec : {M : Type 1} → statement M
 next_zniffer_spec =

@@ -9,7 +9,7 @@ use Rattle.span.proofs.Answers.{unrefused}
 use Rattle.seek.proofs.Exits.{narrow_enough, halving, halving_more}
 use Rattle.span.specs.Met.{trace_of, meet, not_met, told_met}
 use borrow.Author.Rules.{rules}
-use Rattle.seek.specs.Step.{seek_step_of}
+use Rattle.seek.specs.Step.{step_of}
 use Rattle.seek.specs.declared.SeekState.TheVariants.{Searching}
 use Rattle.seek.proofs.search_step.Statement.{statement}
 use Rattle.seek.proofs.search_step.Tie as tie
@@ -55,7 +55,7 @@ returns_4 c =
     let s = c.before.before.before.before.before.before.before in
     let t = trace_of plausible s.args.kinds.now s.args.s.now in
     let n = length s.args.s.now in
-    read_back s.args.target s.ranges.target (λ z. seek_step_of (meet t) n z (Searching s.args.lo s.args.hi)) _ (halving_more (meet t) n (to_z w64 (of_z w64 s.args.target)) s.args.lo s.args.hi c.before.before.before.before.before.distance.result c.before.before.before.before.before.distance.ensures c.before.before.before.before.if1.false _ c.before.before.before.record_near.ensures (unrefused c.before.before.before.record_near.result c.before.before.match.keys2 c.before.match2.keys2) _ _ c.halved.ensures.0 c.halved.ensures.1)
+    read_back s.args.target s.ranges.target (λ z. step_of (meet t) n z (Searching s.args.lo s.args.hi)) _ (halving_more (meet t) n (to_z w64 (of_z w64 s.args.target)) s.args.lo s.args.hi c.before.before.before.before.before.distance.result c.before.before.before.before.before.distance.ensures c.before.before.before.before.if1.false _ c.before.before.before.record_near.ensures (unrefused c.before.before.before.record_near.result c.before.before.match.keys2 c.before.match2.keys2) _ _ c.halved.ensures.0 c.halved.ensures.1)
 
 pub search_step_spec : {M : Type 1} → statement M
 search_step_spec =

@@ -4,7 +4,7 @@ use mir.Syntax.{w64}
 use mir.Val.{to_z, of_z}
 use Rattle.record.specs.Record.{plausible}
 use Rattle.seek.proofs.Targets.{read_back}
-use Rattle.seek.proofs.Exits.{seek_is, seek_done_lem}
+use Rattle.seek.proofs.Exits.{seek_is, seek_done}
 use Rattle.span.specs.Met.{trace_of, told_first}
 use Rattle.seek.specs.Seek.{seek_of, told_found}
 use borrow.Author.Rules.{rules}
@@ -33,7 +33,7 @@ returns : tie.Need-returns
 returns c =
     let s = c.before.before.before.before.before.before.before.before.before in
     let t = trace_of plausible s.args.kinds.now s.args.s.now in
-    read_back s.args.time_ms s.ranges.time_ms (seek_of t) _ (seek_done_lem t (to_z w64 (of_z w64 s.args.time_ms)) _ (ap told_first (sym c.before.before.before.before.before.first.given.1) ∙ c.before.before.before.before.before.before.before.first_record.ensures) _ _ c.before.before.before.narrow.ensures.0 c.before.before.before.narrow.ensures.1 _ (ap told_found (sym c.enum_told.given.1) ∙ c.before.before.walk.ensures))
+    read_back s.args.time_ms s.ranges.time_ms (seek_of t) _ (seek_done t (to_z w64 (of_z w64 s.args.time_ms)) _ (ap told_first (sym c.before.before.before.before.before.first.given.1) ∙ c.before.before.before.before.before.before.before.first_record.ensures) _ _ c.before.before.before.narrow.ensures.0 c.before.before.before.narrow.ensures.1 _ (ap told_found (sym c.enum_told.given.1) ∙ c.before.before.walk.ensures))
 
 enum_told_2 : tie.Need-enum-told-2
 enum_told_2 c = search rules
@@ -45,7 +45,7 @@ returns_2 : tie.Need-returns-2
 returns_2 c =
     let s = c.before.before.before.before.before.before.before.before.before.before in
     let t = trace_of plausible s.args.kinds.now s.args.s.now in
-    read_back s.args.time_ms s.ranges.time_ms (seek_of t) _ (seek_done_lem t (to_z w64 (of_z w64 s.args.time_ms)) _ (ap told_first (sym c.before.before.before.before.before.before.first.given.1) ∙ c.before.before.before.before.before.before.before.before.first_record.ensures) _ _ c.before.before.before.before.narrow.ensures.0 c.before.before.before.before.narrow.ensures.1 _ (ap told_found (sym c.before.offset.given.1) ∙ c.before.before.before.walk.ensures))
+    read_back s.args.time_ms s.ranges.time_ms (seek_of t) _ (seek_done t (to_z w64 (of_z w64 s.args.time_ms)) _ (ap told_first (sym c.before.before.before.before.before.before.first.given.1) ∙ c.before.before.before.before.before.before.before.before.first_record.ensures) _ _ c.before.before.before.before.narrow.ensures.0 c.before.before.before.before.narrow.ensures.1 _ (ap told_found (sym c.before.offset.given.1) ∙ c.before.before.before.walk.ensures))
 
 returns_3 : tie.Need-returns-3
 returns_3 c =

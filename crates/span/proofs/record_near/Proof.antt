@@ -1,7 +1,7 @@
 -- `span::record_near` meets its contract: what is found always has a record. Assumes nothing.
 use mathlib.Core.Path.{refl, sym, ap, ◌∙◌}
 use Rattle.record.proofs.Answers.{not_valid}
-use Rattle.resync.proofs.Records.{has_record}
+use Rattle.resync.proofs.Times.{has_record}
 use Rattle.record.specs.Record.{plausible, told_record}
 use Rattle.resync.specs.Search.{told_search}
 use Rattle.record.specs.declared.Record.TheVariants.{Valid}

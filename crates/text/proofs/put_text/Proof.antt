@@ -3,8 +3,7 @@ use borrow.Author.Rules.{rules}
 use Prim.Native.Nat.{◌≤◌, ◌-◌}
 use mathlib.Core.Path.{◌≡◌, refl}
 use lib.ListN.{length, drop, drop_of_length-le}
-use Rattle.text.proofs.Puts.{Left, all_left, less_left, none_left}
-use Rattle.lemmas.proofs.Laid.{next_byte}
+use Rattle.text.proofs.Puts.{Left, all_left, less_left, none_left, next_byte}
 use Rattle.text.proofs.put_text.Statement.{statement}
 use Rattle.text.proofs.put_text.Tie as tie
 

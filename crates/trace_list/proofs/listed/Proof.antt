@@ -1,6 +1,6 @@
 -- `trace_list::listed` meets its contract: the buffer has room for every list. Assumes nothing.
 use borrow.Author.Rules.{rules}
-use Rattle.trace_text_laws.proofs.Room.{whole_list}
+use Rattle.listing_laws.proofs.Room.{whole_list}
 use Rattle.trace_list.proofs.listed.Statement.{statement}
 use Rattle.trace_list.proofs.listed.Tie as tie
 

@@ -6,7 +6,7 @@ use mathlib.Core.Bool.{true, not, ◌&&◌}
 use mathlib.Core.Path.{◌≡◌, sym, ap}
 use native.Mathlib.Omega.{arith}
 use borrow.Author.Tests.{not-true, not-false, eqb-false, leb-true}
-use Rattle.lemmas.proofs.Choice.{left_true, right_true}
+use Rattle.choice.proofs.Choice.{left_true, right_true}
 use Rattle.zniffer_core.proofs.Whole.{heads, whole_at_start}
 use borrow.Author.Rules.{rules}
 use Rattle.zniffer_core.proofs.run_fresh.Statement.{statement}

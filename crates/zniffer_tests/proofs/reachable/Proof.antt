@@ -2,9 +2,8 @@
 use lib.Dec.{ltb, eqb}
 use mathlib.Core.Bool.{Bool, not, ◌&&◌, ◌||◌}
 use Prim.Native.Nat.{◌%◌}
-use Rattle.zniffer_numbers.specs.States.{await_start_of_frame, await_command_id, await_length, await_payload, await_type, await_timestamp, await_channel_and_speed, await_region, await_rssi, await_startof_data_one, await_startof_data_two}
 use Rattle.zniffer_numbers.specs.declared.Core.{Core}
-use Rattle.zniffer_tests.specs.Tests.{unfilled, no_region, no_channel, no_frame_yet}
+use Rattle.zniffer_tests.specs.Tests.{unfilled, no_region, no_channel, no_frame}
 use borrow.Author.Rules.{rules}
 use Rattle.zniffer_tests.proofs.Laws.{idle_test}
 use Rattle.zniffer_tests.proofs.reachable.Statement.{statement}
@@ -26,16 +25,16 @@ region_ok_requires c κs = search rules
 tested : Core → Bool → Bool → Bool → Bool
 tested c i t g =
     let timed = t && not c.timestamp_state in let placed = timed && (ltb c.channel 8 && ltb c.speed 32) in let framed = placed && g in
-    let none = eqb c.command_id 0 in let headed = (i && no_frame_yet c) || (none && framed) in
+    let none = eqb c.command_id 0 in let headed = (i && no_frame c) || (none && framed) in
     let typed = t && ((c.timestamp_state && eqb (c.timestamp % 256) 0) || (not c.timestamp_state && eqb c.timestamp 0)) in
-    ((eqb c.state await_start_of_frame || (eqb c.state await_command_id || eqb c.state await_type)) && ((none && no_frame_yet c) && unfilled c))
-    || ((eqb c.state await_length && (headed && unfilled c))
-    || ((eqb c.state await_timestamp && (none && ((typed && no_channel c) && unfilled c)))
-    || ((eqb c.state await_channel_and_speed && (none && ((timed && no_channel c) && unfilled c)))
-    || ((eqb c.state await_region && (none && ((placed && no_region c) && unfilled c)))
-    || ((eqb c.state await_rssi && (none && ((framed && eqb c.rssi 0) && unfilled c)))
-    || (((eqb c.state await_startof_data_one || eqb c.state await_startof_data_two) && (none && (framed && unfilled c)))
-    || (eqb c.state await_payload && (headed && ltb c.count c.length))))))))
+    ((eqb c.state 0 || (eqb c.state 1 || eqb c.state 4)) && ((none && no_frame c) && unfilled c))
+    || ((eqb c.state 2 && (headed && unfilled c))
+    || ((eqb c.state 5 && (none && ((typed && no_channel c) && unfilled c)))
+    || ((eqb c.state 6 && (none && ((timed && no_channel c) && unfilled c)))
+    || ((eqb c.state 7 && (none && ((placed && no_region c) && unfilled c)))
+    || ((eqb c.state 8 && (none && ((framed && eqb c.rssi 0) && unfilled c)))
+    || (((eqb c.state 9 || eqb c.state 10) && (none && (framed && unfilled c)))
+    || (eqb c.state 3 && (headed && ltb c.count c.length))))))))
 
 returns_2 : tie.Need-returns-2
 unfolding tested

@@ -1,6 +1,5 @@
 -- `pages::seam_numbers` meets its contract: each case of the answer. Assumes nothing.
-use mathlib.Core.Path.{ap, sym, ◌∙◌}
-use Rattle.seam.proofs.Refusals.{unchecked}
+use mathlib.Core.Path.{ap, sym}
 use Rattle.seam.specs.Seam.{told_seam}
 use borrow.Author.Rules.{rules}
 use Rattle.capi_pages.proofs.pages.seam_numbers.Statement.{statement}
@@ -12,11 +11,11 @@ enum_known_s c = search rules
 enum_known_s_2 : tie.Need-enum-known-s-2
 enum_known_s_2 c = search rules
 
-refusal_requires : tie.Need-refusal-requires
-refusal_requires c κs = search rules
+enum_told : tie.Need-enum-told
+enum_told c = search rules
 
-no_seam_requires : tie.Need-no-seam-requires
-no_seam_requires c κs = search rules
+enum_told_2 : tie.Need-enum-told-2
+enum_told_2 c = search rules
 
 returns : tie.Need-returns
 returns c = ap told_seam (sym c.before.s.given.1)
@@ -25,7 +24,10 @@ returns_2 : tie.Need-returns-2
 returns_2 c = ap told_seam (sym c.before.s2.given.1)
 
 returns_3 : tie.Need-returns-3
-returns_3 c = c.no_seam.ensures ∙ rw c.before.refusal.ensures (unchecked c.before.before.before.args.s c.before.before.match.keys3).0
+returns_3 c = ap told_seam (sym c.enum_told.given.1)
+
+returns_4 : tie.Need-returns-4
+returns_4 c = ap told_seam (sym c.enum_told2.given.1)
 
 pub seam_numbers_spec : {M : Type 1} → statement M
 seam_numbers_spec =
@@ -33,8 +35,9 @@ seam_numbers_spec =
     (tie.spec
     enum_known_s
     enum_known_s_2
-    refusal_requires
-    no_seam_requires
+    enum_told
+    enum_told_2
     returns
     returns_2
-    returns_3)
+    returns_3
+    returns_4)

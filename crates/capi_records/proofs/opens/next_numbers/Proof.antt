@@ -7,9 +7,6 @@ use borrow.Author.Rules.{rules}
 use Rattle.capi_records.proofs.opens.next_numbers.Statement.{statement}
 use Rattle.capi_records.proofs.opens.next_numbers.Tie as tie
 
-refusal_requires : tie.Need-refusal-requires
-refusal_requires c κs = search rules
-
 enum_known_n : tie.Need-enum-known-n
 enum_known_n c = search rules
 
@@ -50,25 +47,24 @@ returns : tie.Need-returns
 returns c = c.record_numbers.ensures ∙ ap told_next (sym c.before.before.n.given.1)
 
 returns_2 : tie.Need-returns-2
-returns_2 c = c.no_record.ensures ∙ rw (c.before.before.before.before.refusal.ensures, c.before.before.n2.given.1)
+returns_2 c = c.no_record.ensures ∙ ap told_next (sym c.before.before.n2.given.1)
 
 returns_3 : tie.Need-returns-3
-returns_3 c = c.no_record2.ensures ∙ rw (c.before.before.before.before.refusal.ensures, c.before.before.n3.given.1)
+returns_3 c = c.no_record2.ensures ∙ ap told_next (sym c.before.before.n3.given.1)
 
 returns_4 : tie.Need-returns-4
-returns_4 c = c.no_record3.ensures ∙ rw (to_z-of_z w32 c.before.before.n4.given.0.0 (search rules)) (rw (c.before.before.before.before.refusal.ensures, c.before.before.n4.given.1))
+returns_4 c = c.no_record3.ensures ∙ rw (to_z-of_z w32 c.before.before.n4.given.0.0 (search rules)) (ap told_next (sym c.before.before.n4.given.1))
 
 returns_5 : tie.Need-returns-5
-returns_5 c = c.no_record4.ensures ∙ rw (c.before.before.before.before.refusal.ensures, c.before.before.n5.given.1)
+returns_5 c = c.no_record4.ensures ∙ ap told_next (sym c.before.before.n5.given.1)
 
 returns_6 : tie.Need-returns-6
-returns_6 c = c.no_record5.ensures ∙ rw (c.before.before.before.before.refusal.ensures, c.before.before.n6.given.1)
+returns_6 c = c.no_record5.ensures ∙ ap told_next (sym c.before.before.n6.given.1)
 
 pub next_numbers_spec : {M : Type 1} → statement M
 next_numbers_spec =
     tie.close
     (tie.spec
-    refusal_requires
     enum_known_n
     record_numbers_requires
     enum_known_n_2

@@ -1,6 +1,6 @@
 -- `seeks::found_numbers` meets its contract: each case of the answer. Assumes nothing.
 use mathlib.Core.Path.{ap, sym, ◌∙◌}
-use Rattle.seek.specs.Step.{seek_done}
+use Rattle.seek.specs.Step.{done}
 use Rattle.seek.specs.Seek.{told_found}
 use Rattle.seek.specs.declared.Found.{Found}
 use borrow.Author.Rules.{rules}
@@ -20,10 +20,10 @@ ended_requires_2 : tie.Need-ended-requires-2
 ended_requires_2 c κs = search rules
 
 returns : tie.Need-returns
-returns c = c.ended.ensures ∙ ap (λ (f : Found). seek_done (told_found f)) (sym c.before.before.f.given.1)
+returns c = c.ended.ensures ∙ ap (λ (f : Found). done (told_found f)) (sym c.before.before.f.given.1)
 
 returns_2 : tie.Need-returns-2
-returns_2 c = c.ended2.ensures ∙ ap (λ (f : Found). seek_done (told_found f)) (sym c.before.enum_told.given.1)
+returns_2 c = c.ended2.ensures ∙ ap (λ (f : Found). done (told_found f)) (sym c.before.enum_told.given.1)
 
 pub found_numbers_spec : {M : Type 1} → statement M
 found_numbers_spec =

@@ -1,6 +1,5 @@
 -- `seeks::seek_numbers` meets its contract: each case of the answer. Assumes nothing.
 use mathlib.Core.Path.{ap, sym}
-use Rattle.seek.proofs.Refusals.{seek_refused}
 use Rattle.seek.specs.Seek.{told_seek}
 use borrow.Author.Rules.{rules}
 use Rattle.capi_seeks.proofs.seeks.seek_numbers.Statement.{statement}
@@ -15,9 +14,6 @@ enum_known_s_2 c = search rules
 enum_told : tie.Need-enum-told
 enum_told c = search rules
 
-refusal_requires : tie.Need-refusal-requires
-refusal_requires c κs = search rules
-
 returns : tie.Need-returns
 returns c = ap told_seek (sym c.before.s.given.1)
 
@@ -25,8 +21,8 @@ returns_2 : tie.Need-returns-2
 returns_2 c = ap told_seek (sym c.before.s2.given.1)
 
 returns_3 : tie.Need-returns-3
-returns_3 c = rw c.refusal.ensures (seek_refused c.before.before.before.args.s c.before.before.match.keys3)
+returns_3 c = ap told_seek (sym c.enum_told.given.1)
 
 pub seek_numbers_spec : {M : Type 1} → statement M
 seek_numbers_spec =
-    tie.close (tie.spec enum_known_s enum_known_s_2 enum_told refusal_requires returns returns_2 returns_3)
+    tie.close (tie.spec enum_known_s enum_known_s_2 enum_told returns returns_2 returns_3)

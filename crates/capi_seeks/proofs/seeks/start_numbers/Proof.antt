@@ -14,11 +14,8 @@ enum_told c = search rules
 no_state_requires : tie.Need-no-state-requires
 no_state_requires c κs = search rules
 
-refusal_requires : tie.Need-refusal-requires
-refusal_requires c κs = search rules
-
 returns : tie.Need-returns
-returns c = ap (start_told c.refusal.result) c.before.no_state.ensures ∙ rw (c.refusal.ensures, c.before.before.enum_told.given.1)
+returns c = ap (start_told 1) c.no_state.ensures ∙ ap told_start (sym c.before.enum_told.given.1)
 
 state_numbers_requires : tie.Need-state-numbers-requires
 state_numbers_requires c κs = search rules
@@ -29,11 +26,4 @@ returns_2 c = ap (start_told 0) c.state_numbers.ensures ∙ ap told_start (sym c
 pub start_numbers_spec : {M : Type 1} → statement M
 start_numbers_spec =
     tie.close
-    (tie.spec
-    enum_known_s
-    enum_told
-    no_state_requires
-    refusal_requires
-    returns
-    state_numbers_requires
-    returns_2)
+    (tie.spec enum_known_s enum_told no_state_requires returns state_numbers_requires returns_2)

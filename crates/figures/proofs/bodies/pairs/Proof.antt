@@ -1,5 +1,5 @@
 -- `bodies::pairs` meets its contract: it is safe and ends. Assumes nothing.
-use Rattle.std.proofs.Common.{◌-◌, ◌≤◌, rules}
+use Rattle.std.proofs.Common.{◌≡◌, ◌+◌, ◌-◌, ◌<◌, ◌≤◌, length, rules}
 use Rattle.figures.proofs.bodies.pairs.Statement.{statement}
 use Rattle.figures.proofs.bodies.pairs.Tie as tie
 

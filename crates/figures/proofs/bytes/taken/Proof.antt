@@ -1,5 +1,5 @@
 -- `bytes::taken` meets its contract: it is safe and ends. Assumes nothing.
-use Rattle.std.proofs.Common.{◌-◌, ◌≤◌, rules}
+use Rattle.std.proofs.Common.{◌≡◌, ◌+◌, ◌-◌, ◌<◌, ◌≤◌, length, rules}
 use Rattle.figures.proofs.bytes.taken.Statement.{statement}
 use Rattle.figures.proofs.bytes.taken.Tie as tie
 

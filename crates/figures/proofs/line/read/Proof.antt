@@ -1,5 +1,5 @@
 -- `line::read` meets its contract: it is safe and ends. Assumes nothing.
-use Rattle.std.proofs.Common.{◌-◌, ◌≤◌, length, rules}
+use Rattle.std.proofs.Common.{◌≡◌, ◌+◌, ◌-◌, ◌<◌, ◌≤◌, length, rules}
 use Rattle.figures.proofs.line.read.Statement.{statement}
 use Rattle.figures.proofs.line.read.Tie as tie
 

@@ -1,5 +1,5 @@
 -- `made::again` meets its contract: it is safe and ends. Assumes nothing.
-use Rattle.std.proofs.Common.{◌≡◌, ◌-◌, ◌≤◌, length, rules}
+use Rattle.std.proofs.Common.{◌≡◌, ◌+◌, ◌-◌, ◌<◌, ◌≤◌, length, rules}
 use Rattle.figures.proofs.made.again.Statement.{statement}
 use Rattle.figures.proofs.made.again.Tie as tie
 

@@ -1,5 +1,5 @@
 -- `made::bytes` meets its contract: it is safe and ends. Assumes nothing.
-use Rattle.std.proofs.Common.{◌≡◌, ◌-◌, ◌/◌, ◌≤◌, length, rules}
+use Rattle.std.proofs.Common.{◌≡◌, ◌+◌, ◌-◌, ◌/◌, ◌<◌, ◌≤◌, length, rules}
 use Rattle.figures.proofs.made.bytes.Statement.{statement}
 use Rattle.figures.proofs.made.bytes.Tie as tie
 

@@ -1,5 +1,5 @@
 -- `made::number` meets its contract: it is safe and ends. Assumes nothing.
-use Rattle.std.proofs.Common.{◌≡◌, ◌-◌, ◌≤◌, length, rules}
+use Rattle.std.proofs.Common.{◌≡◌, ◌+◌, ◌-◌, ◌<◌, ◌≤◌, length, rules}
 use Rattle.figures.proofs.made.number.Statement.{statement}
 use Rattle.figures.proofs.made.number.Tie as tie
 

@@ -1,5 +1,5 @@
 -- `replay::bodies::count` meets its contract: it is safe and ends. Assumes nothing.
-use Rattle.std.proofs.Common.{◌-◌, ◌≤◌, length, rules}
+use Rattle.std.proofs.Common.{◌≡◌, ◌+◌, ◌-◌, ◌<◌, ◌≤◌, length, rules}
 use Rattle.replay.proofs.bodies.count.Statement.{statement}
 use Rattle.replay.proofs.bodies.count.Tie as tie
 

@@ -1,5 +1,5 @@
 -- `replay::bodies::parts` meets its contract: it is safe and ends. Assumes nothing.
-use Rattle.std.proofs.Common.{◌≡◌, ◌-◌, ◌≤◌, length, rules}
+use Rattle.std.proofs.Common.{◌≡◌, ◌+◌, ◌-◌, ◌<◌, ◌≤◌, length, rules}
 use Rattle.replay.proofs.bodies.parts.Statement.{statement}
 use Rattle.replay.proofs.bodies.parts.Tie as tie
 

@@ -1,5 +1,5 @@
 -- `replay::leaves::regions` meets its contract: it is safe and ends. Assumes nothing.
-use Rattle.std.proofs.Common.{◌-◌, ◌≤◌, rules}
+use Rattle.std.proofs.Common.{◌+◌, ◌-◌, ◌<◌, ◌≤◌, rules}
 use Rattle.replay.proofs.leaves.regions.Statement.{statement}
 use Rattle.replay.proofs.leaves.regions.Tie as tie
 

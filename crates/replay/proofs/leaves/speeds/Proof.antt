@@ -1,5 +1,5 @@
 -- `replay::leaves::speeds` meets its contract: it is safe and ends. Assumes nothing.
-use Rattle.std.proofs.Common.{◌≡◌, ◌-◌, ◌≤◌, length, rules}
+use Rattle.std.proofs.Common.{◌≡◌, ◌+◌, ◌-◌, ◌<◌, ◌≤◌, length, rules}
 use Rattle.replay.proofs.leaves.speeds.Statement.{statement}
 use Rattle.replay.proofs.leaves.speeds.Tie as tie
 

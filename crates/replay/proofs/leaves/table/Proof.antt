@@ -1,5 +1,5 @@
 -- `replay::leaves::table` meets its contract: it is safe and ends. Assumes nothing.
-use Rattle.std.proofs.Common.{◌-◌, ◌≤◌, rules}
+use Rattle.std.proofs.Common.{◌≡◌, ◌+◌, ◌-◌, ◌<◌, ◌≤◌, length, rules}
 use Rattle.replay.proofs.leaves.table.Statement.{statement}
 use Rattle.replay.proofs.leaves.table.Tie as tie
 

@@ -1,5 +1,5 @@
 -- `replay::out::put_digits` meets its contract: it is safe and ends. Assumes nothing.
-use Rattle.std.proofs.Common.{◌≡◌, ◌-◌, ◌≤◌, length, rules}
+use Rattle.std.proofs.Common.{◌≡◌, ◌+◌, ◌-◌, ◌<◌, ◌≤◌, length, rules}
 use Rattle.replay.proofs.out.put_digits.Statement.{statement}
 use Rattle.replay.proofs.out.put_digits.Tie as tie
 
@@ -8,9 +8,6 @@ invariant-loop out₀ at digits next₀ i₀ out next i = (i ≤ 256) × (length
 
 abbrev decreases-loop : tie.decreases-loop
 decreases-loop out₀ at digits next₀ i₀ out next i = 256 - i
-
-spill_requires : tie.Need-spill-requires invariant-loop decreases-loop
-spill_requires c κs = search rules
 
 put_byte_requires : tie.Need-put-byte-requires invariant-loop decreases-loop
 put_byte_requires c κs = search rules
@@ -48,7 +45,6 @@ put_digits_spec =
     (tie.spec
     invariant-loop
     decreases-loop
-    spill_requires
     put_byte_requires
     loop_holds
     array_read_put_byte

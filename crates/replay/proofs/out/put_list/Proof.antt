@@ -1,5 +1,5 @@
 -- `replay::out::put_list` meets its contract: it is safe and ends. Assumes nothing.
-use Rattle.std.proofs.Common.{◌≡◌, ◌-◌, ◌≤◌, length, rules}
+use Rattle.std.proofs.Common.{◌≡◌, ◌+◌, ◌-◌, ◌<◌, ◌≤◌, length, rules}
 use Rattle.replay.proofs.out.put_list.Statement.{statement}
 use Rattle.replay.proofs.out.put_list.Tie as tie
 

@@ -1,5 +1,5 @@
 -- `replay::out::put_word` meets its contract: it is safe and ends. Assumes nothing.
-use Rattle.std.proofs.Common.{◌≡◌, ◌-◌, ◌≤◌, length, rules}
+use Rattle.std.proofs.Common.{◌≡◌, ◌+◌, ◌-◌, ◌<◌, ◌≤◌, length, rules}
 use Rattle.replay.proofs.out.put_word.Statement.{statement}
 use Rattle.replay.proofs.out.put_word.Tie as tie
 

@@ -1,5 +1,5 @@
 -- `replay::out::sum_of` meets its contract: it is safe and ends. Assumes nothing.
-use Rattle.std.proofs.Common.{◌-◌, ◌≤◌, rules}
+use Rattle.std.proofs.Common.{◌+◌, ◌-◌, ◌<◌, ◌≤◌, rules}
 use Rattle.replay.proofs.out.sum_of.Statement.{statement}
 use Rattle.replay.proofs.out.sum_of.Tie as tie
 

@@ -1,5 +1,5 @@
 -- `replay::pages::pages` meets its contract: it is safe and ends. Assumes nothing.
-use Rattle.std.proofs.Common.{◌≡◌, ◌-◌, ◌≤◌, length, rules}
+use Rattle.std.proofs.Common.{◌≡◌, ◌+◌, ◌-◌, ◌<◌, ◌≤◌, length, rules}
 use Rattle.replay.proofs.pages.pages.Statement.{statement}
 use Rattle.replay.proofs.pages.pages.Tie as tie
 

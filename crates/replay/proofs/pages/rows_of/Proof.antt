@@ -1,5 +1,5 @@
 -- `replay::pages::rows_of` meets its contract: it is safe and ends. Assumes nothing.
-use Rattle.std.proofs.Common.{◌≡◌, ◌-◌, ◌≤◌, length, rules}
+use Rattle.std.proofs.Common.{◌≡◌, ◌+◌, ◌-◌, ◌<◌, ◌≤◌, length, rules}
 use Rattle.replay.proofs.pages.rows_of.Statement.{statement}
 use Rattle.replay.proofs.pages.rows_of.Tie as tie
 

@@ -1,5 +1,5 @@
 -- `replay::seeks::driven` meets its contract: it is safe and ends. Assumes nothing.
-use Rattle.std.proofs.Common.{◌-◌, ◌≤◌, rules}
+use Rattle.std.proofs.Common.{◌+◌, ◌-◌, ◌<◌, ◌≤◌, rules}
 use Rattle.replay.proofs.seeks.driven.Statement.{statement}
 use Rattle.replay.proofs.seeks.driven.Tie as tie
 

@@ -1,5 +1,5 @@
 -- `replay::sequence::entries` meets its contract: it is safe and ends. Assumes nothing.
-use Rattle.std.proofs.Common.{◌≡◌, ◌-◌, ◌≤◌, length, rules}
+use Rattle.std.proofs.Common.{◌≡◌, ◌+◌, ◌-◌, ◌<◌, ◌≤◌, length, rules}
 use Rattle.replay.proofs.sequence.entries.Statement.{statement}
 use Rattle.replay.proofs.sequence.entries.Tie as tie
 

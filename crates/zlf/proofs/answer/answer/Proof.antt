@@ -1,4 +1,5 @@
--- `zlf::answer::answer` meets its contract: it is safe and ends. Assumes nothing.
+-- `zlf::answer::answer` meets its contract: it is safe and ends, and asks on only a trace that opened. Assumes nothing.
+use borrow.Author.Tests.{not-false}
 use borrow.Author.Rules.{rules}
 use Rattle.zlf.proofs.answer.answer.Statement.{statement}
 use Rattle.zlf.proofs.answer.answer.Tie as tie
@@ -25,7 +26,7 @@ slice_aggregate_answered : tie.Need-slice-aggregate-answered
 slice_aggregate_answered c = search rules
 
 answered_requires : tie.Need-answered-requires
-answered_requires c κs = search rules
+answered_requires c κs = c.before.before.is_open.ensures (not-false c.before.before.is_open.result c.before.if2.false)
 
 returns_3 : tie.Need-returns-3
 returns_3 c = search rules

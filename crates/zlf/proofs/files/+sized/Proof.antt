@@ -6,7 +6,7 @@ use borrow.Fn.PlainCycle.{Measures, is, falls, and}
 use Rattle.zlf.proofs.files.sized.Reads as sized
 use Rattle.zlf.proofs.files.sized.Kinds as sized_kinds
 use Rattle.zlf.proofs.files.+sized.Lts_sized as sized_lts
-use Rattle.facts.proofs.of.Reads as of_reads
+use Rattle.zlf.proofs.facts.of.Reads as of_reads
 use Rattle.zlf.proofs.files.in_large.Reads as in_large_reads
 use Rattle.zlf.proofs.files.in_longest.Reads as in_longest_reads
 use Rattle.zlf.proofs.files.in_middle.Reads as in_middle_reads

@@ -1,5 +1,5 @@
 -- `zlf::list::pages` meets its contract: it is safe and ends. The invariant: the mark at hand is that of the last page's start. Assumes nothing.
-use Prim.Native.Nat.{◌-◌}
+use Prim.Native.Nat.{◌≤◌, ◌<◌, ◌+◌, ◌-◌}
 use mathlib.Core.Path.{◌≡◌}
 use lib.ListN.{length}
 use borrow.Author.Rules.{rules}

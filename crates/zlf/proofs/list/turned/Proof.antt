@@ -2,7 +2,6 @@
 use mathlib.Core.Path.{sym, ap, ◌∙◌}
 use Rattle.record.specs.Record.{plausible}
 use Rattle.seam.specs.Seam.{seam_at, told_seam}
-use Rattle.totals.proofs.Later.{later_is}
 use borrow.Author.Rules.{rules}
 use Rattle.zlf.proofs.list.turned.Statement.{statement}
 use Rattle.zlf.proofs.list.turned.Tie as tie
@@ -13,14 +12,14 @@ frames_table_requires c κs = search rules
 edges_of_requires : tie.Need-edges-of-requires
 edges_of_requires c κs = search rules
 
-refusal_requires : tie.Need-refusal-requires
-refusal_requires c κs = search rules
+refusal_of_requires : tie.Need-refusal-of-requires
+refusal_of_requires c κs = search rules
 
 of_requires : tie.Need-of-requires
 of_requires c κs = search rules
 
-refusal_requires_2 : tie.Need-refusal-requires-2
-refusal_requires_2 c κs = search rules
+refusal_requires : tie.Need-refusal-requires
+refusal_requires c κs = search rules
 
 stopped_requires : tie.Need-stopped-requires
 stopped_requires c κs = search rules
@@ -30,8 +29,8 @@ returns c =
     let a = c.before.before.before.before.before.before.before.before.before.before.before.args in
     ap told_seam c.stopped.ensures.0 ∙ c.before.before.before.before.before.before.before.before.before.before.before.requires ∙ ap (seam_at plausible a.kinds.now a.s.now) (sym c.stopped.ensures.1)
 
-later_mark_requires : tie.Need-later-mark-requires
-later_mark_requires c κs = search rules
+later_requires : tie.Need-later-requires
+later_requires c κs = search rules
 
 put_page_requires : tie.Need-put-page-requires
 put_page_requires c κs = search rules
@@ -46,10 +45,7 @@ same_length : tie.Need-same-length
 same_length c = search rules
 
 returns_2 : tie.Need-returns-2
-returns_2 c =
-    let a = c.before.before.before.before.before.before.before.before.before.before.before.before.before.before.args in
-    c.before.before.before.before.before.before.later_mark.ensures
-    ∙ later_is plausible a.kinds.now a.s.now a.w.from _ (told_seam a.w.mark) (λ z. c.before.before.before.before.before.before.before.before.before.before.before.before.before.before.requires)
+returns_2 c = search rules
 
 pub turned_spec : {M : Type 1} → statement M
 turned_spec =
@@ -57,12 +53,12 @@ turned_spec =
     (tie.spec
     frames_table_requires
     edges_of_requires
-    refusal_requires
+    refusal_of_requires
     of_requires
-    refusal_requires_2
+    refusal_requires
     stopped_requires
     returns
-    later_mark_requires
+    later_requires
     put_page_requires
     status_of_requires
     worse_requires

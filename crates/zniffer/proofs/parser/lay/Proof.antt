@@ -4,7 +4,7 @@ use lib.ListN.{length, take, set, get_or}
 use lib.Seq.{sets, take_all}
 use mathlib.Core.List.{List}
 use mathlib.Core.Path.{◌≡◌, refl, ap, ◌∙◌}
-use Rattle.lemmas.proofs.Laid.{lay_turn}
+use Rattle.choice.proofs.Laid.{lay_turn}
 use borrow.Author.Rules.{rules}
 use Rattle.zniffer.proofs.parser.lay.Statement.{statement}
 use Rattle.zniffer.proofs.parser.lay.Tie as tie

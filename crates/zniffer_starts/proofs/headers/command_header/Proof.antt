@@ -14,7 +14,7 @@ no_header_requires : tie.Need-no-header-requires
 no_header_requires c κs = search rules
 
 returns : tie.Need-returns
-returns c = c.no_header.ensures ∙ rw (← c.before.before.command_ok.ensures, not-true (c.before.before.command_ok.result && not (eqb c.before.before.before.args.length 0)) c.before.if1.true)
+returns c = c.no_Header.ensures ∙ rw (← c.before.before.command_ok.ensures, not-true (c.before.before.command_ok.result && not (eqb c.before.before.before.args.length 0)) c.before.if1.true)
 
 fresh_core_requires : tie.Need-fresh-core-requires
 fresh_core_requires c κs = search rules

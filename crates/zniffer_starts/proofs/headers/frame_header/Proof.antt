@@ -14,7 +14,7 @@ no_header_requires : tie.Need-no-header-requires
 no_header_requires c κs = search rules
 
 returns : tie.Need-returns
-returns c = c.no_header.ensures ∙ rw (← c.before.before.type_ok_lem.ensures, not-true c.before.before.type_ok_lem.result c.before.if1.true)
+returns c = c.no_Header.ensures ∙ rw (← c.before.before.type_ok_lem.ensures, not-true c.before.before.type_ok_lem.result c.before.if1.true)
 
 region_ok_requires : tie.Need-region-ok-requires
 region_ok_requires c κs = search rules

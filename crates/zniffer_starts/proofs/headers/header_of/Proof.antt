@@ -10,7 +10,7 @@ no_header_requires : tie.Need-no-header-requires
 no_header_requires c κs = search rules
 
 returns : tie.Need-returns
-returns c = c.no_header.ensures ∙ too_few c.before.before.before.args.s.now c.before.if1.true
+returns c = c.no_Header.ensures ∙ too_few c.before.before.before.args.s.now c.before.if1.true
 
 shared_slice_read_if2 : tie.Need-shared-slice-read-if2
 shared_slice_read_if2 c = search rules

@@ -6,8 +6,8 @@ use native.Mathlib.Omega.{arith}
 use borrow.Author.Rules.{rules}
 use borrow.Author.Tests.{not-true}
 use lib.ListN.{get_or}
-use Rattle.lemmas.proofs.Choice.{left_true, right_true}
-use Rattle.zniffer_starts.specs.Idle.{is_start, Ignored}
+use Rattle.choice.proofs.Choice.{left_true, right_true}
+use Rattle.zniffer_starts.specs.Idle.{starts, Ignored}
 use Rattle.zniffer_starts.proofs.IdleLaws.{none_ignored, one_more_ignored}
 use Rattle.zniffer_starts.proofs.idle.is_quiet.Statement.{statement}
 use Rattle.zniffer_starts.proofs.idle.is_quiet.Tie as tie
@@ -42,7 +42,7 @@ loop_again c =
     let far : a + k + 1 ≡ a + (k + 1) = omega arith in (
       search rules,
       λ t.
-          let here : is_start (get_or s (a + k) 0) ≡ false = sym c.starts_any.ensures ∙ not-true c.starts_any.result (right_true quiet (not c.starts_any.result) t) in
+          let here : starts (get_or s (a + k) 0) ≡ false = sym c.starts_any.ensures ∙ not-true c.starts_any.result (right_true quiet (not c.starts_any.result) t) in
           subst (Ignored s a) far (one_more_ignored s a (a + k) (at.loop.invariant.1 (left_true quiet (not c.starts_any.result) t)) here),
     )
 

@@ -1,2 +1,0 @@
-pub mod RowsMoved
-pub mod ShiftLaw

@@ -1,2 +1,0 @@
-pub mod Placing
-pub mod ShiftLaw

@@ -1,4 +1,0 @@
-pub mod Sums
-pub mod Whole
-pub mod Later
-pub mod Only
