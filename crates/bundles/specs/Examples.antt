@@ -31,7 +31,7 @@ abbrev pub markers : List ℕ
 markers = replicate 253 0x55
 
 abbrev pub beam : List ℕ
-beam = 2 ∷ (replicate 10 0 ++ (0xFC ∷ (replicate 236 0x55 ++ (0x_fd ∷ 1 ∷ 1 ∷ 6 ∷ 0 ∷ []))))
+beam = 2 ∷ (replicate 10 0 ++ (0xFC ∷ (replicate 236 0x55 ++ (0xFD ∷ 1 ∷ 1 ∷ 6 ∷ 0 ∷ []))))
 
 -- a bracket record with that frame, of 257 bytes
 abbrev pub framed : List ℕ

@@ -31,7 +31,7 @@ use Rattle.listing_laws.proofs.Parser.{Given, frame_given}
 pub record Fine (n : ℕ) (f : PtiFrame) : Type 0 where
   pub radio : Radio f
   pub mpdu : f.mpdu ≤ n
-  pub mpdu_len_lem : f.mpdu_len ≤ n
+  pub mpdu_len : f.mpdu_len ≤ n
 
 -- frames from a place on in a payload of n bytes, each 10 bytes on at least
 unfoldable pub Costly : ℕ → ℕ → List Placed → Type 0
@@ -61,7 +61,7 @@ module _ (p : List ℕ) where
         record {
           radio = record { region = radio.region; channel = radio.channel; speed = radio.speed; rssi = radio.rssi; beams = radio.beams };
           mpdu = omega (arith, b.1.1);
-          mpdu_len_lem = omega (arith, b.1.1);
+          mpdu_len = omega (arith, b.1.1);
         },
         (omega (arith, b.0), (omega arith, subst (λ (k : ℕ). Costly (length p) k rest) n h)),
       )
@@ -87,7 +87,7 @@ module _ (out : Bool) (p : List ℕ) where
     record {
       radio = record { region = h.1.1.1.1; channel = omega (arith, h.1.1.0); speed = omega (arith, h.1.1.1.0); rssi = signed_small r; beams = omega arith };
       mpdu = omega arith;
-      mpdu_len_lem = omega (arith, h.1.0);
+      mpdu_len = omega (arith, h.1.0);
     },
     (omega (arith, h.0), (i, later)),
   )

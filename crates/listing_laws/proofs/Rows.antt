@@ -39,7 +39,7 @@ pub record Plain (r : Row) : Type 0 where
   pub rssi : nat_abs r.rssi < most
   pub beams : r.beam_count < most
   pub mpdu : r.mpdu < most
-  pub mpdu_len_lem : r.mpdu_len < most
+  pub mpdu_len : r.mpdu_len < most
 
 module _ (s : List ℕ) (at size : ℕ) (near : at + payload_part + size ≤ 7932) (time : nat_abs (unix_millis (ticks_at s at)) ≤ latest) where
   numbered_plain : (position from : ℕ) (fs : List Placed) → position + length fs ≤ 7932 → Costly size from fs → Each Plain (numbered s at position fs)
@@ -57,7 +57,7 @@ module _ (s : List ℕ) (at size : ℕ) (near : at + payload_part + size ≤ 793
           rssi = omega (arith, fine.radio.rssi);
           beams = omega (arith, fine.radio.beams);
           mpdu = omega (arith, fine.mpdu);
-          mpdu_len_lem = omega (arith, fine.mpdu_len_lem);
+          mpdu_len = omega (arith, fine.mpdu_len);
         },
         numbered_plain (position + 1) f.next fs (omega arith) k.1.1.1,
       )
@@ -162,7 +162,7 @@ gapped_small before b (r ∷ rows) h =
         rssi = p.rssi;
         beams = p.beams;
         mpdu = p.mpdu;
-        mpdu_len_lem = p.mpdu_len_lem;
+        mpdu_len = p.mpdu_len;
       },
       gapped_small (some r.millis) p.millis rows h.1,
     )

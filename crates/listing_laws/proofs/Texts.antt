@@ -70,7 +70,7 @@ pub record Small (r : Row) : Type 0 where
   pub rssi : nat_abs r.rssi < most
   pub beams : r.beam_count < most
   pub mpdu : r.mpdu < most
-  pub mpdu_len_lem : r.mpdu_len < most
+  pub mpdu_len : r.mpdu_len < most
 
 pub row_most : (r : Row) → Small r → length (row_text r) ≤ 182
 unfolding row_text
@@ -93,7 +93,7 @@ row_most r s =
                     number r.speed s.speed,
                     (
                       signed_most r.rssi s.rssi,
-                      (number r.beam_count s.beams, (number r.mpdu s.mpdu, (number r.mpdu_len s.mpdu_len_lem, tt))),
+                      (number r.beam_count s.beams, (number r.mpdu s.mpdu, (number r.mpdu_len s.mpdu_len, tt))),
                     ),
                   ),
                 ),

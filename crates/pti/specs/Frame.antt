@@ -36,9 +36,9 @@ protocol_of sent tail = get_or tail (rssi_size sent + 3) 0 % 16
 abbrev pub speed_of : Bool → List ℕ → ℕ
 speed_of sent tail = speed_for (channel_of sent tail) (region_of sent tail)
 
--- 01: "0xF9 (receive) or 0x_fd (transmit)"; "the first radio byte is 0x55, which makes it a beam"
+-- 01: "0xF9 (receive) or 0xFD (transmit)"; "the first radio byte is 0x55, which makes it a beam"
 abbrev pub end_tag : Bool → ℕ
-end_tag sent = cond sent 0x_fd 0xF9
+end_tag sent = cond sent 0xFD 0xF9
 
 abbrev pub is_beam : List ℕ → Bool
 is_beam part = eqb (get_or part 0 0) 0x55
@@ -68,7 +68,7 @@ fields_of place sent part tail =
       mpdu_len = mpdu_length part;
     }
 
--- 01: "The end tag must be 0xF9 (receive) or 0x_fd (transmit) unless the first radio byte is 0x55 .. Protocol, low four bits, must be 6"
+-- 01: "The end tag must be 0xF9 (receive) or 0xFD (transmit) unless the first radio byte is 0x55 .. Protocol, low four bits, must be 6"
 abbrev pub accepted : Bool → List ℕ → List ℕ → Bool
 accepted sent part tail = (eqb (get_or tail 0 0) (end_tag sent) || is_beam part) && eqb (protocol_of sent tail) 6
 

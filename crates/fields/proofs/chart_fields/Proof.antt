@@ -51,7 +51,7 @@ returns : tie.Need-returns
 unfolding chart_fields
 returns c =
     let region = c.before.before.before.before.before.before.before.before.before.before.args.region in
-    let e = c.before.before.before.before.before.before.before.before.speed_for_lem.ensures in
+    let e = c.before.before.before.before.before.before.before.before.speed_for.ensures in
     let f = c.before.before.before.before.before.before.before.speed_for2.ensures in
     let g = c.before.before.before.before.before.before.speed_for3.ensures in
     let h = c.before.before.before.before.before.speed_for4.ensures in

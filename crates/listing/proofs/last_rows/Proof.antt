@@ -14,7 +14,7 @@ same_length : tie.Need-same-length
 same_length c = search rules
 
 returns : tie.Need-returns
-returns c = joined c.before.before.before.before.before.before.row_lines.ensures c.before.before.seam_line_lem.ensures
+returns c = joined c.before.before.before.before.before.before.row_lines.ensures c.before.before.seam_line.ensures
 
 pub last_rows_spec : {M : Type 1} → statement M
 last_rows_spec = tie.close (tie.spec row_lines_requires seam_line_requires same_length returns)

@@ -42,11 +42,11 @@ same_length c = search rules
 returns : tie.Need-returns invariant-loop decreases-loop
 returns c =
     let a = c.before.before.before.before.before.before.before.before.before.before.before.args in let l = c.before.before.before.before.before.before.before.before.loop in let kinds = a.kinds.now in let s = a.s.now in
-    let t = c.before.before.before.before.before.before.frames_table_lem.result in
+    let t = c.before.before.before.before.before.before.frames_table.result in
     rest_put l.invariant.2
     (is_last (page_of kinds s) (seam_text kinds s) l.offset (length s - l.i) (length s - (l.i + 1)) (omega arith)
     (page_sized (next_at plausible kinds s) (rows_at kinds s) (length s) none l.offset 600)
-    t.page blanks t.rows c.before.before.before.before.before.before.frames_table_lem.ensures (names_none t.page c.before.before.before.before.match.keys2))
+    t.page blanks t.rows c.before.before.before.before.before.before.frames_table.ensures (names_none t.page c.before.before.before.before.match.keys2))
     c.before.before.last_page.ensures
 
 row_lines_requires : tie.Need-row-lines-requires invariant-loop decreases-loop
@@ -61,13 +61,13 @@ loop_less c = search rules
 loop_again : tie.Need-loop-preserved invariant-loop decreases-loop
 loop_again c =
     let a = c.before.before.before.before.before.before.before.before.before.before.before.before.before.args in let l = c.before.before.before.before.before.before.before.before.before.before.loop in let kinds = a.kinds.now in let s = a.s.now in
-    let t = c.before.before.before.before.before.before.before.before.frames_table_lem.result in (
+    let t = c.before.before.before.before.before.before.before.before.frames_table.result in (
       search rules,
       search rules,
       less_left l.invariant.2
           (goes_on_lem (page_of kinds s) (seam_text kinds s) l.offset (length s - l.i) (length s - (l.i + 1)) (omega arith)
           (page_sized (next_at plausible kinds s) (rows_at kinds s) (length s) none l.offset 600)
-          t.page blanks t.rows c.before.before.before.before.before.before.before.before.frames_table_lem.ensures _ _ _ c.before.before.before.before.before.page.given.1)
+          t.page blanks t.rows c.before.before.before.before.before.before.before.before.frames_table.ensures _ _ _ c.before.before.before.before.before.page.given.1)
           c.before.before.row_lines.ensures,
     )
 

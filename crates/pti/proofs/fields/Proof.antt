@@ -52,7 +52,7 @@ returns c =
     c.before.before.before.direction.ensures
     c.before.before.before.before.before.before.before.low4.ensures
     c.before.before.before.before.before.low42.ensures
-    c.before.before.before.before.speed_for_lem.ensures
+    c.before.before.before.before.speed_for.ensures
     rssi.ensures
     c.before.beams.ensures
     c.mpdu_length.ensures)

@@ -41,7 +41,7 @@ returns c =
     let e = c.before.before.before.before.before.before.before in
     let f = c.before.before.before.before.before.before.before.before.before.before.before.before in
     let g = c.before.before.before.before.before.before.before.before.before.before.before.before.before.before.before.before.before in
-    joined (renamed (ap rate_text g.before.speed_for_lem.ensures) g.put_rate.ensures)
+    joined (renamed (ap rate_text g.before.speed_for.ensures) g.put_rate.ensures)
     (joined (renamed (ap rate_text f.before.speed_for2.ensures) f.put_rate2.ensures)
     (joined (renamed (ap rate_text e.before.speed_for3.ensures) e.put_rate3.ensures)
     (renamed (ap rate_text d.before.speed_for4.ensures ∙ sym (append-nil (rate_text _))) d.put_rate4.ensures)))

@@ -23,7 +23,7 @@ instant_of_requires c κs = search rules
 returns : tie.Need-returns
 unfolding day_form
 returns c =
-    c.instant_of_lem.ensures ∙ ap instant_of c.before.date_in.ensures ∙ day_said _ (sym c.before.before.before.fits2.ensures ∙ c.before.before.if1.true)
+    c.instant_of.ensures ∙ ap instant_of c.before.date_in.ensures ∙ day_said _ (sym c.before.before.before.fits2.ensures ∙ c.before.before.if1.true)
 
 slice_aggregate_fits_2 : tie.Need-slice-aggregate-fits-2
 slice_aggregate_fits_2 c = search rules

@@ -27,10 +27,10 @@ add_used c =
     omega (arith, ap (λ h. h.size) c.before.before.before.header_of.ensures, (heads s bytes).small, c.before.wide.ensures.1)
 
 run_reached_requires : tie.Need-run-reached-requires
-run_reached_requires c κs = rw c.before.before.before.before.before.before.fresh_core_lem.ensures
+run_reached_requires c κs = rw c.before.before.before.before.before.before.fresh_core.ensures
 
 returns : tie.Need-returns
-returns c = rw (← c.before.before.before.before.before.before.before.fresh_core_lem.ensures) c.run_reached.ensures
+returns c = rw (← c.before.before.before.before.before.before.before.fresh_core.ensures) c.run_reached.ensures
 
 whole_of_requires : tie.Need-whole-of-requires
 whole_of_requires c κs = search rules
@@ -43,7 +43,7 @@ returns_2 c =
     let test : (there && fits) ≡ true = not-false (there && fits) c.before.if1.false in
     let some = eqb-false h.result.size 0 (not-true (eqb h.result.size 0) (left_true there fits test)) in
     let long = leb-true (h.result.size + n.result) (length s) (right_true there fits test) in
-    rw (c.before.before.before.before.before.before.before.fresh_core_lem.ensures, c.whole_of.ensures, e) (sym (whole_at_start s bytes (rw e at some) n.result (rw e at n.ensures.0) (rw e at long)))
+    rw (c.before.before.before.before.before.before.before.fresh_core.ensures, c.whole_of.ensures, e) (sym (whole_at_start s bytes (rw e at some) n.result (rw e at n.ensures.0) (rw e at long)))
 
 pub run_fresh_spec : {M : Type 1} → statement M
 run_fresh_spec =

@@ -40,7 +40,7 @@ returns_2 : tie.Need-returns-2
 unfolding tested
 returns_2 c =
     let at = c.before.before.before.before.before.before.before.before.before.before.before.before.before.before.before.before.before.before.before.before in
-    λ j. tested at.before.before.before.before.before.before.before.before.before.before.before.before.before.before.before.args.c (at.before.before.command_ok.ensures j) (at.before.type_ok_lem.ensures j) (at.region_ok_lem.ensures j)
+    λ j. tested at.before.before.before.before.before.before.before.before.before.before.before.before.before.before.before.args.c (at.before.before.command_ok.ensures j) (at.before.type_ok.ensures j) (at.region_ok.ensures j)
 
 pub reachable_spec : {M : Type 1} → statement M
 reachable_spec =

@@ -18,7 +18,7 @@ no_frame_requires : tie.Need-no-frame-requires
 no_frame_requires c κs = search rules
 
 returns : tie.Need-returns
-returns c = c.no_frame_lem.ensures ∙ ap frame_answer (sym c.before.enum_told.given.1 ∙ c.before.before.before.parse_record.ensures)
+returns c = c.no_frame.ensures ∙ ap frame_answer (sym c.before.enum_told.given.1 ∙ c.before.before.before.parse_record.ensures)
 
 frame_numbers_requires : tie.Need-frame-numbers-requires
 frame_numbers_requires c κs = search rules

@@ -20,7 +20,7 @@ fresh_core_requires : tie.Need-fresh-core-requires
 fresh_core_requires c κs = search rules
 
 returns_2 : tie.Need-returns-2
-returns_2 c = rw (c.fresh_core_lem.ensures, ← c.before.before.command_ok.ensures, not-false (c.before.before.command_ok.result && not (eqb c.before.before.before.args.length 0)) c.before.if1.false)
+returns_2 c = rw (c.fresh_core.ensures, ← c.before.before.command_ok.ensures, not-false (c.before.before.command_ok.result && not (eqb c.before.before.before.args.length 0)) c.before.if1.false)
 
 pub command_header_spec : {M : Type 1} → statement M
 command_header_spec =

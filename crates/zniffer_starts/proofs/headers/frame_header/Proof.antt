@@ -14,7 +14,7 @@ no_header_requires : tie.Need-no-header-requires
 no_header_requires c κs = search rules
 
 returns : tie.Need-returns
-returns c = c.no_Header.ensures ∙ rw (← c.before.before.type_ok_lem.ensures, not-true c.before.before.type_ok_lem.result c.before.if1.true)
+returns c = c.no_Header.ensures ∙ rw (← c.before.before.type_ok.ensures, not-true c.before.before.type_ok.result c.before.if1.true)
 
 region_ok_requires : tie.Need-region-ok-requires
 region_ok_requires c κs = search rules
@@ -23,7 +23,7 @@ no_header_requires_2 : tie.Need-no-header-requires-2
 no_header_requires_2 c κs = search rules
 
 returns_2 : tie.Need-returns-2
-returns_2 c = c.no_header2.ensures ∙ simp (← c.before.before.region_ok_lem.ensures, not-true (c.before.before.region_ok_lem.result && (eqb c.before.before.before.before.before.args.one 0x21 && (eqb c.before.before.before.before.before.args.two 0x03 && not (eqb c.before.before.before.before.before.args.length 0)))) c.before.if2.true, and-false)
+returns_2 c = c.no_header2.ensures ∙ simp (← c.before.before.region_ok.ensures, not-true (c.before.before.region_ok.result && (eqb c.before.before.before.before.before.args.one 0x21 && (eqb c.before.before.before.before.before.args.two 0x03 && not (eqb c.before.before.before.before.before.args.length 0)))) c.before.if2.true, and-false)
 
 mul_t20 : tie.Need-overflow-mul-t20
 mul_t20 c = search rules
@@ -32,7 +32,7 @@ add_t22 : tie.Need-overflow-add-t22
 add_t22 c = search rules
 
 returns_3 : tie.Need-returns-3
-returns_3 c = rw (← c.before.before.before.type_ok_lem.ensures, ← c.before.region_ok_lem.ensures, not-false c.before.before.before.type_ok_lem.result c.before.before.if1.false, not-false (c.before.region_ok_lem.result && (eqb c.before.before.before.before.args.one 0x21 && (eqb c.before.before.before.before.args.two 0x03 && not (eqb c.before.before.before.before.args.length 0)))) c.if2.false)
+returns_3 c = rw (← c.before.before.before.type_ok.ensures, ← c.before.region_ok.ensures, not-false c.before.before.before.type_ok.result c.before.before.if1.false, not-false (c.before.region_ok.result && (eqb c.before.before.before.before.args.one 0x21 && (eqb c.before.before.before.before.args.two 0x03 && not (eqb c.before.before.before.before.args.length 0)))) c.if2.false)
 
 pub frame_header_spec : {M : Type 1} → statement M
 frame_header_spec =

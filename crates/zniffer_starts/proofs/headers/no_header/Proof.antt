@@ -7,7 +7,7 @@ fresh_core_requires : tie.Need-fresh-core-requires
 fresh_core_requires c κs = search rules
 
 returns : tie.Need-returns
-returns c = rw c.fresh_core_lem.ensures
+returns c = rw c.fresh_core.ensures
 
 pub no_header_spec : {M : Type 1} → statement M
 no_header_spec = tie.close (tie.spec fresh_core_requires returns)
