@@ -1,4 +1,6 @@
 // How often a wake-up beam repeats: beam_count of pti/mod.rs.
+#![tactic(auto)]
+
 ghost use Rattle.std.specs.Prelude.{◌≡◌, ◌+◌, ◌≤◌, min, length, take, drop};
 ghost use Rattle.beam.specs.Beam.{starts_marked, beam_count};
 

@@ -2,6 +2,8 @@
 //
 // A ZLF payload of kind PTI holds bracket records; the body of each may hold one Z-Wave frame. Nothing is copied: a body is a place and a
 // length in the payload.
+#![tactic(auto)]
+
 ghost use Rattle.std.specs.Prelude.{◌≡◌, ◌+◌, ◌<◌, length};
 ghost use Rattle.bracket.specs.Bracket.{good_length, next_record};
 
@@ -11,7 +13,7 @@ const PREAMBLE: u8 = 0x5B; // '['
 const POSTAMBLE: u8 = 0x5D; // ']'
 
 // What splitting a payload meets next.
-#[derive(Drop)]
+#[derive(Clone, Copy)]
 pub enum Split {
     // A body: its place and length in the payload, and the place after its bracket record.
     Body { at: usize, len: usize, next: usize },

@@ -1,11 +1,13 @@
 // Dates and times of day of the Gregorian calendar. An instant is a number of milliseconds since
 // midnight on 1 January of the year 1, so that it has no sign; the Unix epoch is one of them.
+#![tactic(auto)]
+
 ghost use Rattle.std.specs.Prelude.{true, ◌≡◌, ◌+◌, ◌-◌, ◌*◌, ◌≤◌, ◌<◌};
 ghost use Rattle.ticks.specs.Ticks.{days_of};
 ghost use Rattle.calendar.specs.Calendar.{years_gone, months_gone, days_before, leap_after, date_of, length_of, is_day, is_time, days_to, instant_of, told_instant};
 
 // A date and a time of day, in UTC. Months and days count from 1.
-#[derive(Drop)]
+#[derive(Clone, Copy)]
 pub struct Date {
     pub year: u64,
     pub month: u64,
@@ -17,7 +19,7 @@ pub struct Date {
 }
 
 // The instant of a date.
-#[derive(Drop)]
+#[derive(Clone, Copy)]
 pub enum Instant {
     At { millis: u64 },
     // No such day or time of day, or a year that four digits do not write.

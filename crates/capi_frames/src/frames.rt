@@ -14,7 +14,7 @@ use zniffer_numbers::ParserResult;
 // Whether the body holds a frame, and the frame: direction 0 received or 1 sent, region, channel, speed, RSSI, beam count, and
 // where its MPDU starts in the body and how many bytes it has.
 #[repr(C)]
-#[derive(Drop)]
+#[derive(Clone, Copy)]
 pub struct FrameAnswer {
     pub is_frame: bool,
     pub direction: u8,
@@ -29,7 +29,7 @@ pub struct FrameAnswer {
 
 // A result of the parser: which (0 more bytes are wanted, 1 a command, 2 a frame, 3 the byte is bad), and its numbers.
 #[repr(C)]
-#[derive(Drop)]
+#[derive(Clone, Copy)]
 pub struct ResultNumbers {
     pub which: u8,
     pub id: u8,
@@ -43,7 +43,7 @@ pub struct ResultNumbers {
 
 // A result, how many bytes were used, and the payload, of which the result's first `length` bytes are told.
 #[repr(C)]
-#[derive(Drop)]
+#[derive(Clone, Copy)]
 pub struct ParsedBytes {
     pub result: ResultNumbers,
     pub used: usize,
@@ -51,7 +51,7 @@ pub struct ParsedBytes {
 }
 
 // The parser after some bytes, and what they gave.
-#[derive(Drop)]
+#[derive(Clone, Copy)]
 struct Left {
     pub parser: Parser,
     pub out: ParsedBytes,

@@ -12,7 +12,7 @@ use seam::Seam;
 
 // The refusal's number or 0, where the page started, how many rows it wrote, whether a next place is named, and that place.
 #[repr(C)]
-#[derive(Drop)]
+#[derive(Clone, Copy)]
 pub struct PageAnswer {
     pub refusal: u32,
     pub start: usize,
@@ -24,7 +24,7 @@ pub struct PageAnswer {
 // The refusal's number or 0, whether the records are unbroken, the first offset without a valid record where they are broken, and
 // the number of records.
 #[repr(C)]
-#[derive(Drop)]
+#[derive(Clone, Copy)]
 pub struct SeamAnswer {
     pub refusal: u32,
     pub is_unbroken: bool,

@@ -10,7 +10,7 @@ use seam::Opening;
 
 // The refusal's number or 0, and the version found.
 #[repr(C)]
-#[derive(Drop)]
+#[derive(Clone, Copy)]
 pub struct CursorOpening {
     pub refusal: u32,
     pub version: u32,
@@ -18,7 +18,7 @@ pub struct CursorOpening {
 
 // The refusal's number or 0, the version found, and the reader's place and count.
 #[repr(C)]
-#[derive(Drop)]
+#[derive(Clone, Copy)]
 pub struct SequenceOpening {
     pub refusal: u32,
     pub version: u32,
@@ -29,7 +29,7 @@ pub struct SequenceOpening {
 // The refusal's number or 0, whether there is a record, its parts, the negative length of refusal 8, and the reader's place and
 // count afterwards.
 #[repr(C)]
-#[derive(Drop)]
+#[derive(Clone, Copy)]
 pub struct NextRecord {
     pub refusal: u32,
     pub is_record: bool,

@@ -11,7 +11,7 @@ use resync::Search;
 // The refusal's number or 0, whether the record is valid, its fields, the offset after it, and its time in milliseconds, which is
 // after 2000 and so unsigned.
 #[repr(C)]
-#[derive(Drop)]
+#[derive(Clone, Copy)]
 pub struct RecordAnswer {
     pub refusal: u32,
     pub is_valid: bool,
@@ -28,7 +28,7 @@ pub struct RecordAnswer {
 
 // The refusal's number or 0, whether a boundary was found, where, and how many offsets were judged.
 #[repr(C)]
-#[derive(Drop)]
+#[derive(Clone, Copy)]
 pub struct SearchAnswer {
     pub refusal: u32,
     pub is_found: bool,

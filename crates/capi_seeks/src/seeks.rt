@@ -14,7 +14,7 @@ use span::Span;
 
 // The refusal's number or 0, whether there is a span, and the two times in milliseconds, which are after 2000 and so unsigned.
 #[repr(C)]
-#[derive(Drop)]
+#[derive(Clone, Copy)]
 pub struct SpanAnswer {
     pub refusal: u32,
     pub is_found: bool,
@@ -24,7 +24,7 @@ pub struct SpanAnswer {
 
 // The refusal's number or 0, whether a record was found, its offset, and the number of halvings.
 #[repr(C)]
-#[derive(Drop)]
+#[derive(Clone, Copy)]
 pub struct SeekAnswer {
     pub refusal: u32,
     pub is_found: bool,
@@ -34,7 +34,7 @@ pub struct SeekAnswer {
 
 // The refusal's number or 0, whether a record was found, and its offset.
 #[repr(C)]
-#[derive(Drop)]
+#[derive(Clone, Copy)]
 pub struct PlainAnswer {
     pub refusal: u32,
     pub is_found: bool,
@@ -43,7 +43,7 @@ pub struct PlainAnswer {
 
 // A state of the stepped seek: searching between lo and hi, or scanning from a place.
 #[repr(C)]
-#[derive(Drop)]
+#[derive(Clone, Copy)]
 pub struct State {
     pub searching: bool,
     pub lo: usize,
@@ -53,7 +53,7 @@ pub struct State {
 
 // The refusal's number or 0, and the state to start from.
 #[repr(C)]
-#[derive(Drop)]
+#[derive(Clone, Copy)]
 pub struct StartAnswer {
     pub refusal: u32,
     pub state: State,
@@ -62,7 +62,7 @@ pub struct StartAnswer {
 // The refusal's number or 0, the answer (1 more, 2 scan, 3 done), the state to pass back, and of done whether a record was found
 // and its offset.
 #[repr(C)]
-#[derive(Drop)]
+#[derive(Clone, Copy)]
 pub struct StepAnswer {
     pub refusal: u32,
     pub answer: u32,

@@ -5,6 +5,8 @@
 // out at the top, and each flips the bits 4, 11 and 16 places below it. So the quotient q of a register r satisfies (1 + p) q = r, where p
 // is the sum of the shifts by 4, 11 and 16 places down. Now (1 + p)^16 is 1 + p^16, and p^16 leaves nothing of 64 bits; so q is (1 + p)^15 r,
 // which is (1 + p) (1 + p^2) (1 + p^4) (1 + p^8) r. A square doubles the shifts: 8, 22 and 32 for p^2, 16 and 44 for p^4, 32 for p^8.
+#![tactic(auto)]
+
 ghost use Rattle.std.specs.Prelude.{◌≡◌, ◌+◌, ◌/◌, ◌^◌, ◌≤◌, length, take, drop};
 ghost use Rattle.checksum.specs.Sum.{sum_byte, sum_from, sum_of};
 ghost use Rattle.checksum.specs.Division.{octets, sum_in, times};

@@ -1,4 +1,6 @@
 // Pages of frames from any offset of a trace, into a lent table: cursor.rs. With the proof that pages of an unbroken trace lose nothing.
+#![tactic(auto)]
+
 ghost use Rattle.std.specs.Prelude.{◌≡◌, ◌≤◌, length, drop, ◌++◌};
 ghost use Rattle.record.specs.Record.{plausible};
 ghost use Rattle.std.proofs.Math.Option.{none};
@@ -11,7 +13,7 @@ use rows::Row;
 use steps::Place;
 
 // A page with a table of its own.
-#[derive(Drop)]
+#[derive(Clone, Copy)]
 pub struct Table {
     pub page: Page,
     pub rows: [Row; 600],

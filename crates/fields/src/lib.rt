@@ -1,4 +1,6 @@
 // Lines for a script: a letter and bare fields, a space before each. The order of the fields is fixed.
+#![tactic(auto)]
+
 ghost use Rattle.std.specs.Prelude.{◌≡◌};
 ghost use Rattle.text.specs.Put.{Put};
 ghost use Rattle.fields.specs.Fields.{field, signed_field, fields_of, lettered, line_of, side_letter, origin_fields, radio_fields, frame_fields, mark_fields, bit_of, marks_fields, record_fields, chart_fields};

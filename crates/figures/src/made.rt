@@ -3,7 +3,7 @@ use crate::line;
 use crate::line::Numbers;
 
 // How many bytes are made, and the entries 1 to 4 of the kind table as the digits of a number; the others are 0.
-#[derive(Drop)]
+#[derive(Clone, Copy)]
 pub struct Made {
     pub len: usize,
     pub kinds: u64,

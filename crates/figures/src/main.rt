@@ -1,6 +1,8 @@
 // The figures of document 01 that are run. Standard input (the file `stdin`, which says how it is read) names each figure, says what it is run on
 // and which function is asked; the answer is printed after the name, a line for each figure, held to the file `stdout`. Those that 01 marks P
 // are proved, in the crate `marked`.
+#![tactic(auto)]
+
 mod bodies; // bracket records, PTI frames, beams, speeds; milliseconds
 mod bytes; // the Zniffer's bytes
 mod line; // the numbers and bytes of a line
@@ -59,7 +61,7 @@ fn read(name: &[u8], command: &[u8], s: &mut [u8], m: Made) -> Made {
 }
 
 // Where a line's name ends, which is after its last colon; where the line ends; and where the next one begins.
-#[derive(Drop)]
+#[derive(Clone, Copy)]
 struct Ends {
     colon: usize,
     end: usize,

@@ -1,4 +1,6 @@
 // Numbers at a place of a trace, the kind of an end byte, and the layout's fixed numbers.
+#![tactic(auto)]
+
 ghost use Rattle.std.specs.Prelude.{◌≡◌, ◌+◌, ◌*◌, ◌<◌, get_or};
 ghost use Rattle.layout.specs.Layout.{le_at, kind_of};
 

@@ -1,5 +1,7 @@
 // The lines of a list: a letter, fields each after a space, and the line's end. Each function takes the place of the buffer where its
 // text goes, and gives the place after it.
+#![tactic(auto)]
+
 ghost use Rattle.std.specs.Prelude.{[], ◌∷◌, ◌≡◌};
 ghost use Rattle.text.specs.Put.{Put};
 ghost use Rattle.text.specs.Texts.{decimal_text, signed_text};

@@ -1,5 +1,7 @@
 // The list of a trace as text: what the program trace-list writes for its input. Each function takes the place of the buffer where
 // its text goes, and gives the place after it.
+#![tactic(auto)]
+
 ghost use mathlib.Core.List.{◌++◌, flat_map};
 ghost use Rattle.std.specs.Prelude.{◌≡◌, ◌≤◌, length, take};
 ghost use Rattle.io.specs.Counts.{IsPrefixLen};

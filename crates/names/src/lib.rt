@@ -1,4 +1,6 @@
 // Times, regions, speeds and kinds by name, and the bytes of an MPDU, put into a lent buffer.
+#![tactic(auto)]
+
 ghost use Rattle.std.specs.Prelude.{◌≡◌, ◌+◌, ◌*◌, ◌≤◌, ◌<◌, min, length};
 ghost use Rattle.text.specs.Put.{Put};
 ghost use Rattle.names.specs.Names.{instant_of, time_text, entry_in, region_index, region_text, speed_text, kind_text, bytes_text, mpdu_text};

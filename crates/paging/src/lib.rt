@@ -1,4 +1,6 @@
 // A page planned, by value: its answer, and from which place how many rows are to be written. `cursor` writes them into a lent table.
+#![tactic(auto)]
+
 ghost use Rattle.std.specs.Prelude.{◌≡◌, ◌+◌, ◌≤◌, length, take, drop};
 ghost use Rattle.record.specs.Record.{plausible, next_at};
 ghost use Rattle.std.proofs.Math.Option.{none};
@@ -15,7 +17,7 @@ use resync::{DEFAULT_WINDOW, Search};
 use steps::Place;
 
 // What a page answers: where it started, how many rows it wrote, and where the next one goes on.
-#[derive(Drop)]
+#[derive(Clone, Copy)]
 pub enum Page {
     More {
         start: usize,
@@ -32,14 +34,14 @@ pub enum Page {
 }
 
 // The rows of the records that a page takes, and the end of the last.
-#[derive(Drop)]
+#[derive(Clone, Copy)]
 struct Counted {
     pub rows: usize,
     pub end: usize,
 }
 
 // A page's answer, and from which place how many rows are to be written.
-#[derive(Drop)]
+#[derive(Clone, Copy)]
 pub struct Plan {
     pub page: Page,
     pub place: Place,

@@ -1,5 +1,7 @@
 // The example traces of request 10, and what the seeks answer on each: a trace for each premise that is left out, and one that meets all.
 // Without an argument it lists the answers; with the first letter of a trace's name it writes that trace.
+#![tactic(auto)]
+
 mod traces;
 
 ghost use Rattle.std.specs.Prelude.{length, ◌≡◌};

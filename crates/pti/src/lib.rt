@@ -1,6 +1,8 @@
 // PTI frames: pti/mod.rs.
 //
 // The body of a bracket record may hold one Z-Wave frame. Nothing is copied: a frame's MPDU is a place and a length in the body.
+#![tactic(auto)]
+
 ghost use Rattle.std.specs.Prelude.{◌≡◌, ◌+◌, ◌%◌, ◌≤◌, ◌<◌, length};
 ghost use Rattle.std.specs.Int.{w8};
 ghost use Rattle.std.proofs.Common.{to_z};
@@ -29,7 +31,7 @@ const ZWAVE_PROTOCOL: u8 = 0x06;
 const LENGTH_INDEX_IN_HEADER: usize = 7;
 
 // A Z-Wave frame recovered from a PTI record.
-#[derive(Drop)]
+#[derive(Clone, Copy)]
 pub struct PtiFrame {
     // 0 received, 1 sent.
     pub direction: u8,
@@ -48,7 +50,7 @@ pub struct PtiFrame {
 }
 
 // What a body holds.
-#[derive(Drop)]
+#[derive(Clone, Copy)]
 pub enum Parsed {
     Frame(PtiFrame),
     // A diagnostic record, an aborted transmission, another protocol.

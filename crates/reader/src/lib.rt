@@ -1,4 +1,6 @@
 // Reading a trace in sequence: the rest of zlf/reader.rs. Opening, and one record after another.
+#![tactic(auto)]
+
 ghost use Rattle.std.specs.Prelude.{◌≡◌, ◌≤◌, ◌<◌, ◌^◌, length};
 ghost use Rattle.layout.specs.Layout.{header_size, trace_limit};
 ghost use Rattle.layout.specs.Fields.{length_at, end_place};
@@ -14,7 +16,7 @@ pub const HEADER_CRC_OFFSET: usize = 2046;
 const NEGATIVE: u32 = 0x8000_0000;
 
 // The reader: the place of the next record and the number of records read. It goes in by value and comes back in the answer.
-#[derive(Drop)]
+#[derive(Clone, Copy)]
 pub struct ZlfReader {
     pub place: usize,
     pub count: u64,
@@ -22,7 +24,7 @@ pub struct ZlfReader {
 
 // One record as stored, with where its payload lies. The payload is not frame-aligned: it may hold part of a frame, one, or
 // several.
-#[derive(Drop)]
+#[derive(Clone, Copy)]
 pub struct ZlfRecord {
     pub offset: usize,
     pub raw_ticks: u64,
@@ -35,7 +37,7 @@ pub struct ZlfRecord {
 }
 
 // What opening a trace answers.
-#[derive(Drop)]
+#[derive(Clone, Copy)]
 pub enum Opening {
     Opened { version: u32, reader: ZlfReader },
     TraceTooLong,
@@ -45,7 +47,7 @@ pub enum Opening {
 }
 
 // What reading the next record answers.
-#[derive(Drop)]
+#[derive(Clone, Copy)]
 pub enum Next {
     Record {
         header: ZlfRecord,

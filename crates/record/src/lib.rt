@@ -3,6 +3,8 @@
 //     ticks(8) | props(1) | len(4) | payload(len) | eod(1)
 //
 // A record is known by its ticks, its length, its end byte and, for PTI, its payload's first byte.
+#![tactic(auto)]
+
 ghost use Rattle.std.specs.Prelude.{◌≡◌, ◌≤◌, length};
 ghost use Rattle.layout.specs.Layout.{trace_limit};
 ghost use Rattle.record.specs.Record.{plausible, ticks_in, length_in, opens_right, record_at, told_record};
@@ -23,7 +25,7 @@ const PREAMBLE: u8 = 0x5B;
 
 // A record header read from the trace. The offset of the record that follows and the capture time, in milliseconds since
 // the Unix epoch, come with it; a valid record's time is after 2000, so it is unsigned.
-#[derive(Drop)]
+#[derive(Clone, Copy)]
 pub struct RecordHeader {
     pub offset: usize,
     pub raw_ticks: u64,
@@ -37,7 +39,7 @@ pub struct RecordHeader {
 }
 
 // What stands at an offset.
-#[derive(Drop)]
+#[derive(Clone, Copy)]
 pub enum Record {
     Valid { header: RecordHeader },
     Absent,

@@ -1,5 +1,7 @@
 // The port's side of the comparison with the Rust: reads cases on standard input, and answers each in the oracle's lines
 // (compare/FORMAT.md). Where a case is unknown or cut off it says so, and stops.
+#![tactic(auto)]
+
 mod bodies;
 mod leaves;
 mod out;
@@ -15,7 +17,7 @@ use crate::out::Said;
 use libc::STDIN_FILENO;
 
 // Where the next case begins, where the lines go on, how many cases were answered, and which part of the cases is the trace.
-#[derive(Drop)]
+#[derive(Clone, Copy)]
 pub struct Place {
     pub at: usize,
     pub line: usize,
@@ -25,7 +27,7 @@ pub struct Place {
 }
 
 // What the cases that come before one have set: the version that an opening expects, and the kind table.
-#[derive(Drop)]
+#[derive(Clone, Copy)]
 pub struct Given {
     pub version: u32,
     pub kinds: [u8; 256],
@@ -172,7 +174,7 @@ fn chosen(letter: u8, case: &[u8], trace: &[u8], g: Given, lines: &mut [u8], lin
 }
 
 // The part of the cases that is a trace.
-#[derive(Drop)]
+#[derive(Clone, Copy)]
 struct Part {
     from: usize,
     to: usize,

@@ -6,7 +6,7 @@ use libc::STDOUT_FILENO;
 // What an answer says: a word, numbers with a space before each, and a letter. The word is its bytes as one number, the first
 // byte highest, and nothing where it is 0, as the letter. The numbers from `signed` up to `plain` have a sign: they are the bits
 // of an i64.
-#[derive(Drop)]
+#[derive(Clone, Copy)]
 pub struct Said {
     pub word: u64,
     pub list: [u64; 13],
@@ -190,7 +190,7 @@ pub fn bytes_of(case: &[u8]) -> &[u8] {
 }
 
 // The sum of bytes, and `?` where they are not there.
-#[derive(Drop)]
+#[derive(Clone, Copy)]
 pub struct Sum {
     pub sum: u64,
     pub letter: u8,

@@ -119,7 +119,7 @@ fn driven(start: SeekState, target: i64, trace: &[u8], kinds: &[u8; 256]) -> Sai
 }
 
 // Where a step leads, unless it refuses.
-#[derive(Drop)]
+#[derive(Clone, Copy)]
 struct Onward {
     stops: bool,
     state: SeekState,

@@ -163,7 +163,7 @@ pub fn at_once(case: &[u8], lines: &mut [u8], line: usize) -> usize {
 }
 
 // Where the bytes of the next call stand, and how many they are.
-#[derive(Drop)]
+#[derive(Clone, Copy)]
 struct Piece {
     pub at: usize,
     pub len: usize,

@@ -2,6 +2,8 @@
 //
 // Records are of any length, so an offset alone does not say where one begins: a boundary is known by the records that
 // follow it.
+#![tactic(auto)]
+
 ghost use Rattle.std.specs.Prelude.{cond, ◌≡◌, ◌+◌, ◌≤◌, min, length};
 ghost use Rattle.layout.specs.Layout.{trace_limit};
 ghost use Rattle.record.specs.Record.{plausible, next_at};
@@ -31,7 +33,7 @@ const NEAR: usize = 8;
 pub const DEFAULT_WINDOW: usize = 1_048_576;
 
 // Whether an offset is a boundary.
-#[derive(Drop)]
+#[derive(Clone, Copy)]
 pub enum Boundary {
     Here,
     NotHere,
@@ -39,7 +41,7 @@ pub enum Boundary {
 }
 
 // What a search finds, and how many offsets it judged.
-#[derive(Drop)]
+#[derive(Clone, Copy)]
 pub enum Search {
     Found { offset: usize, judged: usize },
     Nothing { judged: usize },
@@ -48,7 +50,7 @@ pub enum Search {
 }
 
 // The first record at or after an offset, and its time in milliseconds.
-#[derive(Drop)]
+#[derive(Clone, Copy)]
 pub enum RecordTime {
     At { offset: usize, unix_millis: u64 },
     Nothing,

@@ -2,6 +2,8 @@
 //
 // A walk over the frames of a payload goes by one index: after each frame the Zniffer parser is fresh, and a bracket record
 // is passed whole, so what comes next depends on the place alone.
+#![tactic(auto)]
+
 ghost use Rattle.std.specs.Prelude.{◌≡◌, ◌+◌, ◌-◌, ◌<◌, length};
 ghost use Rattle.std.specs.Int.{w8};
 ghost use Rattle.std.proofs.Common.{to_z};
@@ -15,7 +17,7 @@ use zniffer_numbers::ParserResult;
 
 // A row of the lent table: one to a frame, numbers only. C reads it too.
 #[repr(C)]
-#[derive(Drop)]
+#[derive(Clone, Copy)]
 pub struct Row {
     // The record's offset, and the frame's position among those of the record.
     pub record: usize,
@@ -37,7 +39,7 @@ pub struct Row {
 }
 
 // What a payload holds from a place on.
-#[derive(Drop)]
+#[derive(Clone, Copy)]
 pub enum Next {
     // A frame, its MPDU's place counted in the payload, and the place after the bytes that hold it.
     Frame { frame: PtiFrame, next: usize },

@@ -1,4 +1,6 @@
 // Opening a trace as a cursor, and the check that valid records follow one another from a place to the last byte: cursor.rs.
+#![tactic(auto)]
+
 ghost use Rattle.std.specs.Prelude.{◌≡◌};
 ghost use Rattle.record.specs.Record.{plausible};
 ghost use Rattle.seam.specs.Opening.{opening_of, told_opening};
@@ -8,7 +10,7 @@ use layout::{TRACE_LIMIT, ZLF_HEADER_SIZE};
 use record::Record;
 
 // What opening a trace answers.
-#[derive(Drop)]
+#[derive(Clone, Copy)]
 pub enum Opening {
     Opened { version: u32 },
     TraceTooLong,
@@ -17,7 +19,7 @@ pub enum Opening {
 }
 
 // What the seam check answers.
-#[derive(Drop)]
+#[derive(Clone, Copy)]
 pub enum Seam {
     // Valid records follow one another from the place to the last byte.
     Unbroken { records: usize },

@@ -3,6 +3,8 @@
 // A seek needs no index: it halves the trace, with a search for a record at each middle, down to a short span, and walks
 // the records from there. The stepped seek is the same, a halving or a record at a time, for a caller that has to fetch the
 // bytes before they are read.
+#![tactic(auto)]
+
 ghost use Rattle.std.specs.Prelude.{◌≡◌, pos, length};
 ghost use Rattle.std.specs.Int.Signed.{lt_z};
 ghost use Rattle.record.specs.Record.{plausible};
@@ -17,7 +19,7 @@ use span::{FirstRecord, Met};
 pub const SEEK_SPAN: usize = 65_536;
 
 // How far a stepped seek has narrowed.
-#[derive(Drop)]
+#[derive(Clone, Copy)]
 pub enum SeekState {
     // Halving the trace to bracket the target.
     Searching { lo: usize, hi: usize },
@@ -26,21 +28,21 @@ pub enum SeekState {
 }
 
 // The state that a stepped seek starts from.
-#[derive(Drop)]
+#[derive(Clone, Copy)]
 pub enum SeekStart {
     From { state: SeekState },
     TraceTooLong,
 }
 
 // The record's place, or nothing if the time is past the end.
-#[derive(Drop)]
+#[derive(Clone, Copy)]
 pub enum Found {
     At { offset: usize },
     Nothing,
 }
 
 // The outcome of one step of a seek.
-#[derive(Drop)]
+#[derive(Clone, Copy)]
 pub enum SeekStep {
     // Keep going from this state.
     More { state: SeekState },
@@ -52,7 +54,7 @@ pub enum SeekStep {
 }
 
 // The outcome of a whole seek, and how many halvings it made.
-#[derive(Drop)]
+#[derive(Clone, Copy)]
 pub enum SeekTime {
     Found { offset: usize, halvings: usize },
     Nothing { halvings: usize },
@@ -60,14 +62,14 @@ pub enum SeekTime {
 }
 
 // The bounds after a halving.
-#[derive(Drop)]
+#[derive(Clone, Copy)]
 struct Bounds {
     lo: usize,
     hi: usize,
 }
 
 // Where the halvings leave lo, and how many there were.
-#[derive(Drop)]
+#[derive(Clone, Copy)]
 struct Narrowed {
     lo: usize,
     halvings: usize,

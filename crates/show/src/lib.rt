@@ -1,4 +1,6 @@
 // Lines for a person: aligned, and by name.
+#![tactic(auto)]
+
 ghost use Rattle.std.specs.Prelude.{◌++◌, ◌≡◌, ◌-◌, ◌≤◌, length, replicate};
 ghost use Rattle.speed.specs.Chart.{row_for};
 ghost use Rattle.text.specs.Put.{Put};

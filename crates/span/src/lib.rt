@@ -1,6 +1,8 @@
 // The first record of a trace, and its span: first_record and time_span of cursor.rs.
 //
 // A record is found by a search from a place, and read once: `record_near` is what the span and the seeks see of a trace.
+#![tactic(auto)]
+
 ghost use Rattle.std.specs.Prelude.{◌≡◌, suc, ◌≤◌, ◌-◌, pos, length};
 ghost use Rattle.layout.specs.Layout.{trace_limit};
 ghost use Rattle.record.specs.Record.{plausible};
@@ -12,7 +14,7 @@ use record::Record;
 use resync::{DEFAULT_WINDOW, Search};
 
 // The first record at or after a place: where it begins, where it ends, and its time.
-#[derive(Drop)]
+#[derive(Clone, Copy)]
 pub enum Met {
     At {
         offset: usize,
@@ -25,7 +27,7 @@ pub enum Met {
 }
 
 // Where the first record of a trace is.
-#[derive(Drop)]
+#[derive(Clone, Copy)]
 pub enum FirstRecord {
     At { offset: usize },
     Nothing,
@@ -33,7 +35,7 @@ pub enum FirstRecord {
 }
 
 // Capture time of the first and last record, in milliseconds.
-#[derive(Drop)]
+#[derive(Clone, Copy)]
 pub enum Span {
     Times { first: u64, last: u64 },
     Nothing,

@@ -2,6 +2,8 @@
 //
 // PTI records do not carry the bit rate; it is implied by the channel and the region, by ITU-T G.9959 (tables A.1, A.2). The Rust
 // searches four lists; here is one grid, as it is drawn on the wall chart, proved to answer as they do (specs/Speed.antt).
+#![tactic(auto)]
+
 ghost use Rattle.std.specs.Prelude.{◌≡◌};
 ghost use Rattle.speed.specs.Chart.{row_for};
 ghost use Rattle.speed.specs.Speed.{speed_for};

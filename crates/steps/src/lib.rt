@@ -1,4 +1,6 @@
 // The rows of the records from a place on, by value and one at a time: how a page is filled.
+#![tactic(auto)]
+
 ghost use Rattle.std.specs.Prelude.{◌≡◌, ◌+◌, ◌≤◌, ◌<◌, length, take, drop, pos, ltb, cond};
 ghost use Rattle.record.specs.Record.{plausible};
 ghost use Rattle.rows.specs.Frames.{first_of, frames_from};
@@ -16,7 +18,7 @@ use rows::{Next, Row};
 const LATEST: u64 = 4_112_352_000_000;
 
 // Where filling stands: a record, the index in its payload, the next row's position, and the time of the row before.
-#[derive(Drop)]
+#[derive(Clone, Copy)]
 pub struct Place {
     pub offset: usize,
     pub index: usize,
@@ -26,7 +28,7 @@ pub struct Place {
 }
 
 // What a step comes to: a row, the end of the valid records, or no step at all.
-#[derive(Drop)]
+#[derive(Clone, Copy)]
 pub enum StepAnswer {
     Row,
     End,
@@ -35,7 +37,7 @@ pub enum StepAnswer {
 }
 
 // The answer, a row where one comes, and the place after it.
-#[derive(Drop)]
+#[derive(Clone, Copy)]
 pub struct Step {
     pub row: Row,
     pub next: Place,

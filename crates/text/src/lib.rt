@@ -1,5 +1,7 @@
 // Text put into a lent buffer. Each function takes the place where the buffer's free part begins, and gives the place after what it
 // put there. Bytes past the buffer's end are dropped.
+#![tactic(auto)]
+
 ghost use Rattle.std.specs.Prelude.{[], ◌∷◌, ◌≡◌, ◌<◌, nat_abs};
 ghost use Rattle.text.specs.Put.{Put};
 ghost use Rattle.text.specs.Texts.{decimal_text, signed_text, hex_text, capital};

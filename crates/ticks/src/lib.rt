@@ -1,4 +1,6 @@
 // Stored times, and the milliseconds that they stand for: the time part of zlf/reader.rs.
+#![tactic(auto)]
+
 ghost use Rattle.std.specs.Prelude.{◌≡◌};
 ghost use Rattle.ticks.specs.Ticks.{cleared, unix_millis};
 

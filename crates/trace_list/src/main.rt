@@ -1,5 +1,7 @@
 // The program trace-list: the list of the trace on standard input, after its kinds and its version. One byte more than the longest
 // input is read, to tell an input that is too long.
+#![tactic(auto)]
+
 ghost use Rattle.std.specs.Prelude.{◌≡◌, take};
 ghost use Rattle.io.specs.Counts.{IsPrefixLen};
 ghost use Rattle.listing.specs.Listing.{list_text};

@@ -1,4 +1,6 @@
 // Times as people and scripts write them: ISO 8601 in UTC, or milliseconds since the Unix epoch.
+#![tactic(auto)]
+
 ghost use Rattle.std.specs.Prelude.{true, ◌≡◌, ◌+◌, ◌-◌, ◌*◌, ◌%◌, ◌≤◌, ◌<◌, length};
 ghost use Rattle.calendar.specs.Calendar.{told_instant};
 ghost use Rattle.written.specs.Written.{unix_epoch, iso_text, is_digit, fits_byte, fits_form, pair_at, date_in, value_of, is_number, number_in, told_number, time_in, after_sign, bare_in, timed_in};
@@ -9,7 +11,7 @@ use calendar::{Date, Instant};
 pub const UNIX_EPOCH: u64 = 62_135_596_800_000;
 
 // A number that was read.
-#[derive(Drop)]
+#[derive(Clone, Copy)]
 pub enum Decimal {
     Number { n: u64 },
     Unreadable,

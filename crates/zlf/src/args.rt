@@ -32,7 +32,7 @@ const VERSION: u8 = 6;
 const PLAIN: u8 = 7;
 
 // A call: each number but `command` and `taking` is the place of an argument, 0 where there is none. One that is refused has been told why.
-#[derive(Drop)]
+#[derive(Clone, Copy)]
 pub struct Call {
     pub command: u8,
     pub plain: bool,

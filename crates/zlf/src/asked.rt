@@ -11,7 +11,7 @@ const MOST: u64 = 500;
 const ZLF_VERSION: u64 = 104;
 
 // What a call asks of its trace.
-#[derive(Drop)]
+#[derive(Clone, Copy)]
 pub struct Ask {
     pub refused: bool,
     pub command: u8,
@@ -25,7 +25,7 @@ pub struct Ask {
 }
 
 // A number that a word gives, and whether it is one.
-#[derive(Drop)]
+#[derive(Clone, Copy)]
 struct Number {
     n: u64,
     good: bool,
@@ -56,7 +56,7 @@ fn number_at(i: usize, usual: u64, least: u64, most: u64) -> Number {
 }
 
 // A time that a word gives, and whether it is one.
-#[derive(Drop)]
+#[derive(Clone, Copy)]
 struct Moment {
     millis: i64,
     good: bool,

@@ -5,7 +5,7 @@ ghost use Rattle.text.specs.Put.{Put};
 ghost use Rattle.zlf.specs.Facts.{moment_text, sum_text, shown, facts_of, facts_after, line_text};
 
 // The facts of a line, in order.
-#[derive(Drop)]
+#[derive(Clone, Copy)]
 pub struct Facts {
     pub first: u64,
     pub second: u64,

@@ -16,7 +16,7 @@ use span::Span;
 const SUMMED: usize = 2046;
 
 // Records and frames by kind, and what the seam check says.
-#[derive(Drop)]
+#[derive(Clone, Copy)]
 struct Totals {
     pub mark: Seam,
     pub records: [u64; 5],

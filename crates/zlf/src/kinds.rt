@@ -3,7 +3,7 @@ use crate::{facts, refuse};
 use layout::{OTHER, PTI, PTI_DIAGNOSTIC, ZNIFFER};
 
 // A kind table, and whether there is one.
-#[derive(Drop)]
+#[derive(Clone, Copy)]
 pub struct Kinds {
     pub good: bool,
     pub table: [u8; 256],

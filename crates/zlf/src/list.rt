@@ -87,7 +87,7 @@ fn put_rows(
 }
 
 // A page's edges: where it starts, its rows, and where the next one goes on, or the trace's length where there is none.
-#[derive(Drop)]
+#[derive(Clone, Copy)]
 struct Edges {
     pub good: bool,
     pub start: usize,
@@ -167,7 +167,7 @@ fn refusal_of(p: Page) -> usize
 
 // Where a walk over pages stands: the place where the lines go on, the next page's offset, the last page's start and mark, the worst
 // status, and whether there is a next page. Before the first page the mark is that of place 0, which is refused.
-#[derive(Drop)]
+#[derive(Clone, Copy)]
 struct Walk {
     pub at: usize,
     pub offset: usize,

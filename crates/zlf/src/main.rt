@@ -1,6 +1,8 @@
 // The command that a reviewer runs on a real trace: pages of frames with their mark, the seam check, what a trace holds, seeks, the
 // sequential reader's records; and the chart of speeds. `zlf help` says how it is called. It writes its status, 0 to 2, as a digit to
 // descriptor 3: the command at the root of the repository ends with it.
+#![tactic(auto)]
+
 mod answer;
 mod args;
 mod asked;

@@ -62,7 +62,7 @@ fn refusal_of(n: Next) -> usize
 }
 
 // Where the sequence stands: the place where the lines go on, the next record's place, the refusal that ended it, and whether it goes on.
-#[derive(Drop)]
+#[derive(Clone, Copy)]
 struct Reading {
     pub at: usize,
     pub place: usize,

@@ -9,7 +9,7 @@ use zniffer_numbers::{Core, ParserResult};
 
 // The numbers of `Core`, and the payload so far, of which `count` bytes are there and no others are looked at.
 #[repr(C)]
-#[derive(Drop)]
+#[derive(Clone, Copy)]
 pub struct Parser {
     pub state: u8,
     pub command_id: u8,
@@ -26,26 +26,26 @@ pub struct Parser {
 }
 
 // A result, and beside it the payload that it hands out: the first `length` bytes of the array.
-#[derive(Drop)]
+#[derive(Clone, Copy)]
 pub struct Answer {
     pub result: ParserResult,
     pub payload: [u8; 255],
 }
 
-#[derive(Drop)]
+#[derive(Clone, Copy)]
 pub struct Parsed {
     pub parser: Parser,
     pub answer: Answer,
 }
 
 // What the last byte used gave, and how many were used.
-#[derive(Drop)]
+#[derive(Clone, Copy)]
 pub struct Used {
     pub answer: Answer,
     pub used: usize,
 }
 
-#[derive(Drop)]
+#[derive(Clone, Copy)]
 pub struct Ran {
     pub parser: Parser,
     pub out: Used,

@@ -1,5 +1,7 @@
 // The parser's numbers alone, from any numbers: a step, and a run over several bytes. Whoever needs no payload, or finds it in the
 // bytes that were given, runs these. Carried over from `zniffer_parser.rs`.
+#![tactic(auto)]
+
 ghost use Rattle.std.specs.Prelude.{◌≡◌, true, ◌+◌, ◌≤◌, ◌<◌, length, drop};
 ghost use Rattle.zniffer_tests.specs.Tests.{reachable_of};
 ghost use Rattle.zniffer_numbers.specs.Numbers.{fresh_core};
@@ -8,7 +10,7 @@ ghost use Rattle.zniffer_core.specs.Run.{core_step_of, core_run_from};
 use zniffer_numbers::{Core, CoreStep, ParserResult};
 
 // What several bytes leave and give, and how many of them were used.
-#[derive(Drop)]
+#[derive(Clone, Copy)]
 pub struct CoreRan {
     pub core: Core,
     pub result: ParserResult,
@@ -30,7 +32,7 @@ pub fn core_step(c: Core, value: u8) -> CoreStep
 }
 
 // Numbers that some bytes were passed over with, and the place after these.
-#[derive(Drop)]
+#[derive(Clone, Copy)]
 struct Ahead {
     pub core: Core,
     pub at: usize,

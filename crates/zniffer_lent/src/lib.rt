@@ -1,5 +1,7 @@
 // The parser belongs to the caller, and every byte updates it in its place: a thin layer over the parser by value, in the
 // Rust's order.
+#![tactic(auto)]
+
 ghost use Rattle.std.specs.Prelude.{◌≡◌};
 ghost use Rattle.zniffer.specs.Parse.{fresh_parser, step_of, run_from};
 

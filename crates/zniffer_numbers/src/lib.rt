@@ -1,10 +1,12 @@
 // The numbers of the Zniffer's parser, without the payload's bytes, and what a byte gives. Carried over from `zniffer_parser.rs`.
+#![tactic(auto)]
+
 ghost use Rattle.std.specs.Prelude.{◌≡◌};
 ghost use Rattle.zniffer_numbers.specs.Numbers.{fresh_core, goes_on};
 
 // What a byte gives: a command or a frame, whose payload is `length` bytes long; that more bytes are wanted; or that the
 // byte is bad.
-#[derive(Drop)]
+#[derive(Clone, Copy)]
 pub enum ParserResult {
     ValidCommand {
         id: u8,
@@ -25,7 +27,7 @@ pub enum ParserResult {
 // The states, in the Rust's order: 0 AwaitStartOfFrame, 1 AwaitCommandID, 2 AwaitLength, 3 AwaitPayload, 4 AwaitType,
 // 5 AwaitTimestamp, 6 AwaitChannelAndSpeed, 7 AwaitRegion, 8 AwaitRssi, 9 AwaitStartofDataOne, 10 AwaitStartofDataTwo.
 // `count` is how many bytes of the payload there are so far, and `timestamp_state` that the timestamp lacks its low byte.
-#[derive(Drop)]
+#[derive(Clone, Copy)]
 pub struct Core {
     pub state: u8,
     pub command_id: u8,
@@ -40,7 +42,7 @@ pub struct Core {
     pub rssi: u8,
 }
 
-#[derive(Drop)]
+#[derive(Clone, Copy)]
 pub struct CoreStep {
     pub core: Core,
     pub result: ParserResult,

@@ -7,7 +7,7 @@ use zniffer_numbers::{Core, fresh_core};
 use zniffer_tests::{command_ok, region_ok, type_ok};
 
 // The numbers after a header, and how many bytes it has; a fresh parser's and 0 where there is none.
-#[derive(Drop)]
+#[derive(Clone, Copy)]
 pub struct Head {
     pub core: Core,
     pub size: usize,

@@ -1,4 +1,6 @@
 // Which numbers the bytes may be, and the test on a parser's numbers: what they are in each state.
+#![tactic(auto)]
+
 ghost use Rattle.std.specs.Prelude.{◌≡◌};
 ghost use Rattle.zniffer_tests.specs.Tests.{command_ok, type_ok, region_ok, reachable_of};
 

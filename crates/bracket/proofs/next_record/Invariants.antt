@@ -1,0 +1,16 @@
+-- `bracket::next_record` meets its contract. The invariant: the next body from the place reached is the next body from the place given. The
+-- measure is what is left of the payload. Assumes nothing.
+use Prim.Native.Nat.{◌-◌}
+use native.Mathlib.Omega.{arith}
+use lib.ListN.{length}
+use mathlib.Core.Path.{◌≡◌, refl, sym, ◌∙◌}
+use borrow.Author.Rules.{rules}
+use Rattle.bracket.specs.Bracket.{next_record}
+use Rattle.bracket.proofs.Steps.{none, passed, stopped, found, onward}
+use Rattle.bracket.proofs.next_record.Given as goal
+
+abbrev pub invariant-loop-from : goal.invariant-loop-from
+invariant-loop-from l = next_record l.payload l.from ≡ next_record l.payload l.at
+
+abbrev pub decreases-loop-from : goal.decreases-loop-from
+decreases-loop-from l = length l.payload - l.from

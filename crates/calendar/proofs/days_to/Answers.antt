@@ -1,0 +1,7 @@
+-- `calendar::days_to` meets its contract. Assumes nothing.
+use native.Mathlib.Omega.{arith}
+use borrow.Author.Rules.{rules}
+use Rattle.calendar.proofs.days_to.Goals as goal
+
+pub returns : goal.returns
+returns c = (cc, omega arith)

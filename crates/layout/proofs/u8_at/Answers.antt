@@ -1,0 +1,8 @@
+-- `layout::u8_at` meets its contract: past the end `get_or` gives 0. Assumes nothing.
+use borrow.Author.Rules.{rules}
+use lib.ListN.{get_or-eq_default}
+use mathlib.Core.Path.{sym}
+use Rattle.layout.proofs.u8_at.Goals as goal
+
+pub returns-else-at-s : goal.returns-else-at-s
+returns-else-at-s c = sym (get_or-eq_default c.args.s.now 0 c.if-at-s.false)
