@@ -1,7 +1,7 @@
 -- A whole header, byte after byte from a fresh parser; a payload that is there to its last byte; and both, at the start of the bytes. Assumes nothing.
 use Prim.Native.Nat.{ℕ, ◌+◌, ◌-◌, ◌*◌, ◌/◌, ◌%◌, ◌≤◌, ◌<◌}
 use borrow.Author.Tests.{lt-ltb, eq-eqb, eqb-true, eqb-false, leb-true, not-true}
-use lib.Dec.{ltb, leb, eqb}
+use lib.Dec.{leb, eqb}
 use lib.ListN.{length, drop, get_or, length-drop}
 use lib.Seq.{drop-drop}
 use mathlib.Core.Bool.{Bool, true, false, not, ◌&&◌}
