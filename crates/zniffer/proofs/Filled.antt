@@ -14,7 +14,7 @@ use Rattle.zniffer_numbers.specs.declared.Core.{Core}
 use Rattle.zniffer_numbers.specs.declared.CoreStep.{CoreStep}
 use Rattle.zniffer_numbers.specs.declared.ParserResult.{ParserResult}
 use Rattle.zniffer_numbers.specs.declared.ParserResult.TheVariants.{ValidCommand, ValidFrame, IncompleteFrame, InvalidFrame}
-use Rattle.zniffer_numbers.specs.Numbers.{goes_on}
+use Rattle.zniffer_numbers.specs.Numbers.{fresh_core, goes_on}
 use Rattle.zniffer_tests.specs.Tests.{command_ok, type_ok, region_ok, unfilled, reachable_of}
 use Rattle.zniffer_states.specs.Step.{whole, payload_byte, take_of}
 use Rattle.zniffer_states.proofs.Laws.{both, by_state, room}
@@ -68,7 +68,7 @@ module _ (c : Core) (b : ℕ) (h : reachable_of c ≡ true) (s : c.state ≡ 3) 
 
   pub one_held : held_after (core_step_of c b) ≡ c.count + 1
   one_held =
-      rw is_payload (either (eqb (c.count + 1) c.length) (λ e. rw e (said _ ∙ sym (eqb-true (c.count + 1) c.length e))) (λ e. rw e refl))
+      rw is_payload (either (eqb (c.count + 1) c.length) (λ e. rw e (said fresh_core ∙ sym (eqb-true (c.count + 1) c.length e))) (λ e. rw e refl))
 
 pub none_held : (c : Core) (b : ℕ) → reachable_of c ≡ true → eqb c.state 3 ≡ false → (c.count ≡ 0) × (held_after (core_step_of c b) ≡ 0)
 none_held c b h other =
