@@ -61,17 +61,6 @@ below channel region h k =
     off channel region
     (simp (le-ltb (key_of channel region % 256) 32 (let m : key_of channel region % 256 ≡ region = omega arith in omega arith), and-false))
 
--- none of the numbers below n, as a match has it after an arm for each of them
-abbrev NoneBelow : ℕ → ℕ → Type 0
-NoneBelow zero x = Unit {0}
-NoneBelow (suc n) x = NoneBelow n x × (x ≡ n → ⊥)
-
-at_least : (n x : ℕ) → NoneBelow n x → n ≤ x
-at_least zero x l = omega arith
-at_least (suc n) x l = let h : n ≤ x = at_least n x l.0 in omega (arith, h, l.1)
-
 -- the row of a region that has no arm
-pub row_below : (region : ℕ) → NoneBelow 32 region → region < 256 → (0 ∷ 0 ∷ 0 ∷ 0 ∷ []) ≡ row_for region
-row_below region l k =
-    let h : 32 ≤ region = at_least 32 region l in
-    simp (sym (below 0 region h k), sym (below 1 region h k), sym (below 2 region h k), sym (below 3 region h k))
+pub row_below : (region : ℕ) → 32 ≤ region → region < 256 → (0 ∷ 0 ∷ 0 ∷ 0 ∷ []) ≡ row_for region
+row_below region h k = simp (sym (below 0 region h k), sym (below 1 region h k), sym (below 2 region h k), sym (below 3 region h k))

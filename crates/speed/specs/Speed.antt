@@ -1,5 +1,5 @@
 -- The bit rates of Z_Wave, by channel and region: ITU_T G.9959, tables A.1 and A.2, as pti/speed.rs carries them.
-use Rattle.std.specs.Prelude.{ℕ, ◌+◌, ◌*◌, eqb, Bool, true, false, ◌||◌, cond, List, [], ◌∷◌, ◌++◌}
+use Rattle.std.specs.Prelude.{ℕ, ◌+◌, ◌*◌, eqb, Bool, false, ◌||◌, cond, List, [], ◌∷◌, ◌++◌}
 
 -- a channel and a region as one number
 abbrev pub key_of : ℕ → ℕ → ℕ
