@@ -1,5 +1,5 @@
 -- A negative number without its sign: -(z + 1) + 1, in which no sum overflows. Assumes nothing.
-use Prim.Native.Nat.{ℕ, zero, suc, ◌<◌, ◌^◌, ◌+◌}
+use Prim.Native.Nat.{ℕ, zero, suc, ◌<◌, ◌+◌}
 use lib.IntN.{ℤ, pos, negsuc, nat_abs, ◌+ℤ◌, ◌-ℤ◌, +ℤ_idl}
 use lib.Signed.{lt_z, non_neg, mag}
 use lib.Dec.{T, ltb}

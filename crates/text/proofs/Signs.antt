@@ -1,6 +1,6 @@
 -- A number's text by its sign, as the code tests it: of what stands in a local, kept as its bits; and a number of 8 bits in 64. Assumes
 -- nothing.
-use Prim.Native.Nat.{ℕ, ◌+◌}
+use Prim.Native.Nat.{ℕ}
 use lib.IntN.{ℤ, pos, negsuc, nat_abs}
 use lib.Signed.{lt_z}
 use mathlib.Core.Bool.{true, false}
