@@ -2,8 +2,8 @@
 use Prim.Native.Nat.{ℕ, ◌≤◌, ◌<◌}
 use borrow.Author.Tests.{le-leb, lt-leb, lt-ltb, le-ltb}
 use lib.Dec.{leb, ltb}
-use mathlib.Core.Bool.{Bool, true, false}
-use mathlib.Core.Path.{◌≡◌, sym, refl}
+use mathlib.Core.Bool.{true, false}
+use mathlib.Core.Path.{◌≡◌}
 use mathlib.Core.Option.{none, some}
 use Rattle.calendar.specs.Calendar.{length_of, is_day, is_time, millis_to, instant_of}
 use Rattle.calendar.specs.declared.Date.{Date}

@@ -1,6 +1,6 @@
 -- The days of the first months of a year: those that the code's table has, for a leap year too. Assumes nothing.
 use Prim.Native.Nat.{ℕ, ◌+◌, ◌-◌, ◌≤◌, ◌<◌}
-use borrow.Author.Tests.{eqb-true, leb-true, le-leb, lt-leb, le-ltb}
+use borrow.Author.Tests.{eqb-true, leb-true, le-ltb}
 use lib.Dec.{eqb, leb}
 use lib.ListN.{get_or}
 use mathlib.Core.Bool.{Bool, true, false, cond, ◌&&◌, false≢true}

@@ -1,6 +1,5 @@
 -- `calendar::date_of` meets its contract: each field is what the definition says. Assumes nothing.
 use Rattle.calendar.specs.Calendar.{dated}
-use borrow.Author.Rules.{rules}
 use Rattle.calendar.proofs.date_of.Goals as goal
 
 pub returns : goal.returns

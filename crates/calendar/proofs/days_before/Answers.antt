@@ -1,7 +1,6 @@
 -- `calendar::days_before` meets its contract: the table has the days before each month, and a leap year one more from March on. Assumes
 -- nothing.
 use native.Mathlib.Omega.{arith}
-use borrow.Author.Rules.{rules}
 use Rattle.calendar.proofs.Months.{starts, leap_entry, common_entry}
 use Rattle.calendar.proofs.days_before.Goals as goal
 

@@ -1,6 +1,5 @@
 -- `calendar::days_to` meets its contract. Assumes nothing.
 use native.Mathlib.Omega.{arith}
-use borrow.Author.Rules.{rules}
 use Rattle.calendar.proofs.days_to.Goals as goal
 
 pub returns : goal.returns

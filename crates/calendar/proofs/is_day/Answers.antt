@@ -4,7 +4,6 @@ use Prim.Native.Nat.{◌≤◌}
 use native.Mathlib.Omega.{arith}
 use borrow.Author.Tests.{leb-true}
 use Rattle.calendar.proofs.Days.{no_year, year_too_large, no_month, month_too_large, no_day, day_by_length}
-use borrow.Author.Rules.{rules}
 use Rattle.calendar.proofs.is_day.Goals as goal
 
 pub returns-then-year-lt1 : goal.returns-then-year-lt1

@@ -1,5 +1,4 @@
 -- `calendar::leap_after` meets its contract. Assumes nothing.
-use borrow.Author.Rules.{rules}
 use Rattle.calendar.proofs.leap_after.Goals as goal
 
 pub returns : goal.returns

@@ -6,7 +6,6 @@ use lib.ListN.{get_or}
 use native.Mathlib.Omega.{arith}
 use Rattle.calendar.specs.Calendar.{month_days}
 use Rattle.calendar.proofs.Months.{month_length}
-use borrow.Author.Rules.{rules}
 use Rattle.calendar.proofs.length_of.Goals as goal
 
 pub overflow_sub-result : goal.overflow_sub-result

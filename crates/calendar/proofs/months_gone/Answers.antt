@@ -3,9 +3,8 @@
 use Prim.Native.Nat.{◌+◌, ◌-◌, ◌≤◌}
 use mathlib.Core.Path.{◌≡◌, refl, sym, ◌∙◌}
 use native.Mathlib.Omega.{arith}
-use borrow.Author.Rules.{rules}
 use borrow.Author.Tests.{lt-ltb}
-use Rattle.calendar.specs.Calendar.{days_before, first_from, next_month_after, months_gone}
+use Rattle.calendar.specs.Calendar.{days_before, months_gone}
 use Rattle.calendar.proofs.Searching.{here, last}
 use Rattle.calendar.proofs.Months.{none_before, month_on}
 use Rattle.calendar.proofs.months_gone.Goals as goal

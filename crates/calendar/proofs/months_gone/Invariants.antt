@@ -1,13 +1,8 @@
 -- `calendar::months_gone` meets its contract. The invariant: the month at hand begins no later than the day, and the search goes on from it.
 -- Assumes nothing.
-use Prim.Native.Nat.{◌+◌, ◌-◌, ◌≤◌}
-use mathlib.Core.Path.{◌≡◌, refl, sym, ◌∙◌}
-use native.Mathlib.Omega.{arith}
-use borrow.Author.Rules.{rules}
-use borrow.Author.Tests.{lt-ltb}
+use Prim.Native.Nat.{◌-◌, ◌≤◌}
+use mathlib.Core.Path.{◌≡◌}
 use Rattle.calendar.specs.Calendar.{days_before, first_from, next_month_after, months_gone}
-use Rattle.calendar.proofs.Searching.{here, last}
-use Rattle.calendar.proofs.Months.{none_before, month_on}
 use Rattle.calendar.proofs.months_gone.Given as goal
 
 abbrev pub invariant-loop-m : goal.invariant-loop-m

@@ -1,9 +1,7 @@
 -- `calendar::years_gone` meets its contract. The invariant: the new year at hand is no later than the day. Assumes nothing.
-use Prim.Native.Nat.{◌+◌, ◌-◌, ◌≤◌}
+use Prim.Native.Nat.{◌+◌}
 use mathlib.Core.Path.{sym}
 use native.Mathlib.Omega.{arith}
-use borrow.Author.Rules.{rules}
-use Rattle.ticks.specs.Ticks.{days_of}
 use Rattle.calendar.proofs.Years.{at_least, years_are}
 use Rattle.calendar.proofs.years_gone.Goals as goal
 
