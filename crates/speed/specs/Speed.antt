@@ -1,4 +1,4 @@
--- The bit rates of Z_Wave, by channel and region: ITU_T G.9959, tables A.1 and A.2, as pti/speed.rs carries them.
+-- The bit rates of Z-Wave, by channel and region: ITU-T G.9959, tables A.1 and A.2, as pti/speed.rs carries them.
 use Rattle.std.specs.Prelude.{ℕ, ◌+◌, ◌*◌, eqb, Bool, false, ◌||◌, cond, List, [], ◌∷◌, ◌++◌}
 
 -- a channel and a region as one number

@@ -1,5 +1,5 @@
 -- Times as people and scripts write them: ISO 8601 in UTC, or milliseconds since the Unix epoch.
-use Rattle.std.specs.Prelude.{ℕ, ◌+◌, ◌-◌, ◌*◌, ◌/◌, ◌%◌, leb, ltb, eqb, get_or, length, drop, Bool, true, false, cond, ◌&&◌, List, [], ◌∷◌}
+use Rattle.std.specs.Prelude.{ℕ, ◌+◌, ◌-◌, ◌*◌, ◌/◌, ◌%◌, leb, eqb, get_or, length, drop, Bool, true, false, cond, ◌&&◌, List, [], ◌∷◌}
 use Rattle.std.proofs.Math.Option.{Option, none, some}
 use Rattle.ticks.specs.Ticks.{epoch, per_millisecond}
 use Rattle.calendar.specs.Calendar.{instant_of}
@@ -15,7 +15,7 @@ unix_epoch = epoch / per_millisecond
 abbrev pub digit : ℕ → ℕ
 digit n = 48 + n % 10
 
--- ISO 8601, to the millisecond, in UTC: `YYYY_MM_DDThh:mm:ss.sss_z`
+-- ISO 8601, to the millisecond, in UTC: `YYYY-MM-DDThh:mm:ss.sssZ`
 unfoldable pub iso_text : Date → List ℕ
 iso_text d =
     digit (d.year / 1000) ∷ digit (d.year / 100) ∷ digit (d.year / 10) ∷ digit d.year ∷ 0x2D
