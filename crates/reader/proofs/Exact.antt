@@ -50,7 +50,7 @@ module _ (kinds s : List ℕ) (r : ZlfReader) where
   pub next_is : {t : NextTold} → Steps kinds s r t → t ≡ next_of kinds s r
   next_is (Steps.overlong h) = exits.too_long kinds s r h
   next_is (Steps.ended a h) = exits.at_end kinds s r a h
-  next_is (Steps.in_head a b h) = exits.in_head kinds s r a b h
+  next_is (Steps.in_head a b h) = exits.in_head_lem kinds s r a b h
   next_is (Steps.negative a d h) = exits.negative kinds s r a d h
   next_is (Steps.in_payload a d e h) = exits.in_payload_lem kinds s r a d e h
   next_is (Steps.reads a d e h) = exits.whole kinds s r a d e h

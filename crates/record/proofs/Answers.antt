@@ -1,24 +1,22 @@
 -- What an answer tells a caller of the record test, and that no two answers tell the same. Assumes nothing.
 use Prim.Native.Nat.{ℕ, ◌≤◌}
 use borrow.Author.Tests.{le-ltb}
-use denote.Enum.Declared.{tag_of}
 use lib.Dec.{ltb}
 use lib.ListN.{length}
 use mathlib.Core.Bool.{Bool, true, false, cond, true≢false}
 use mathlib.Core.List.{List}
-use mathlib.Core.Logic.{◌⊎◌, ⊎_elim}
 use mathlib.Core.Option.{none, some}
 use mathlib.Core.Path.{◌≡◌, refl, sym, ap, ◌∙◌}
 use native.Mathlib.Omega.{arith}
 use Rattle.layout.specs.Layout.{trace_limit}
 use Rattle.record.specs.Record.{Limits, valid, next_at, RecordTold, no_record, fields_at, record_at, told_record}
 use Rattle.record.specs.declared.Record.{Record}
-use Rattle.record.specs.contracts.Record.{the_type}
+use Rattle.record.specs.declared.RecordHeader.{RecordHeader}
 use Rattle.record.specs.declared.Record.TheVariants.{Valid, Absent, TraceTooLong}
 
 -- an answer that is not the first case tells of no valid record
-pub not_valid : (r : Record) → (tag_of the_type r ≡ 1) ⊎ (tag_of the_type r ≡ 2) → (told_record r).is_valid ≡ false
-not_valid (Valid h) w = absurd (⊎_elim (λ e. omega arith) (λ e. omega arith) w)
+pub not_valid : (r : Record) → ((h : RecordHeader) → r ≡ Valid h → ⊥) → (told_record r).is_valid ≡ false
+not_valid (Valid h) w = absurd (w h refl)
 not_valid Absent w = refl
 not_valid TraceTooLong w = refl
 
