@@ -74,8 +74,8 @@ module _ (page : ℕ → PageGiven) (end : List ℕ) (at k turns : ℕ) (more : 
         ∙ ap (λ (x : List Row). rows_text (told_page p).refusal x end) (sym first_rows)))
 
 -- an answer that is not the first case names no next place
-pub names_none : (p : Page) → (tag_of the_type p ≡ 1) ⊎ (tag_of the_type p ≡ 2) ⊎ (tag_of the_type p ≡ 3) ⊎ (tag_of the_type p ≡ 4) → (told_page p).is_more ≡ false
-names_none (More start size next) w = absurd (⊎_elim (λ e. omega arith) (⊎_elim (λ e. omega arith) (⊎_elim (λ e. omega arith) (λ e. omega arith))) w)
+pub names_none : (p : Page) → ((start size next : ℕ) → p ≡ More start size next → ⊥) → (told_page p).is_more ≡ false
+names_none (More start size next) w = absurd (w start size next refl)
 names_none (Last start size) w = refl
 names_none TraceTooLong w = refl
 names_none WindowTooLong w = refl

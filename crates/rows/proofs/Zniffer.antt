@@ -121,12 +121,12 @@ module _ (out : Bool) (p : List ℕ) where
   goes from = goes_by (length p) from (omega arith)
 
 -- a result that neither wants more bytes nor is a frame completes nothing
-quiet : (out : Bool) (end : ℕ) (r : ParserResult) → (tag_of the_type r ≡ 0) ⊎ ((tag_of the_type r ≡ 2) ⊎ (tag_of the_type r ≡ 3)) → (tag_of the_type r ≡ 0) ⊎ ((tag_of the_type r ≡ 1) ⊎ (tag_of the_type r ≡ 3))
+quiet : (out : Bool) (end : ℕ) (r : ParserResult) → (r ≡ IncompleteFrame → ⊥) → ((w k v g s n : ℕ) → r ≡ ValidFrame w k v g s n → ⊥)
     → (goes_on r ≡ false) × (completed out end r ≡ [])
 quiet out end (ValidCommand i n) a b = (refl, refl)
 quiet out end InvalidFrame a b = (refl, refl)
-quiet out end IncompleteFrame a b = absurd (⊎_elim (λ e. omega arith) (λ z. ⊎_elim (λ e. omega arith) (λ e. omega arith) z) b)
-quiet out end (ValidFrame w k v g r n) a b = absurd (⊎_elim (λ e. omega arith) (λ z. ⊎_elim (λ e. omega arith) (λ e. omega arith) z) a)
+quiet out end IncompleteFrame a b = absurd (a refl)
+quiet out end (ValidFrame w k v g s n) a b = absurd (b w k v g s n refl)
 
 -- what the code meets: the place reached gives the same frames as the place given, r is what the bytes from there gave
 module _ (out : Bool) (p : List ℕ) (at from : ℕ) (inv : zniffer_from out p from ≡ zniffer_from out p at) (r : CoreRan) (r-is : r ≡ core_run_from 0 (take (length p - from) (drop from p)) fresh_core) where
@@ -152,8 +152,7 @@ module _ (out : Bool) (p : List ℕ) (at from : ℕ) (inv : zniffer_from out p f
       let is : zniffer_from out p at ≡ completed out (from + r.used) (ValidFrame w k v g s n) ++ zniffer_from out p (from + r.used) = rw e at (ended (ap goes_on e)) in
       rw is (rw f-is)
 
-  pub passed : (tag_of the_type r.result ≡ 0) ⊎ ((tag_of the_type r.result ≡ 2) ⊎ (tag_of the_type r.result ≡ 3))
-      → (tag_of the_type r.result ≡ 0) ⊎ ((tag_of the_type r.result ≡ 1) ⊎ (tag_of the_type r.result ≡ 3))
+  pub passed : (r.result ≡ IncompleteFrame → ⊥) → ((w k v g s n : ℕ) → r.result ≡ ValidFrame w k v g s n → ⊥)
       → zniffer_from out p (from + r.used) ≡ zniffer_from out p at
   passed a b =
       let q = quiet out (from + r.used) r.result a b in

@@ -1,11 +1,9 @@
 -- What the search's answer says to its callers. Assumes nothing.
 use Prim.Native.Nat.{ℕ}
-use denote.Enum.Declared.{tag_of}
 use lib.IntN.{pos}
 use lib.ListN.{length}
 use mathlib.Core.Bool.{true, false}
 use mathlib.Core.List.{List}
-use mathlib.Core.Logic.{◌⊎◌, ⊎_elim}
 use mathlib.Core.Path.{◌≡◌, refl, sym, ap, ◌∙◌}
 use native.Mathlib.Omega.{arith}
 use Rattle.ticks.specs.Ticks.{unix_millis}
@@ -15,30 +13,27 @@ use Rattle.record.proofs.Valid.{record_steps}
 use Rattle.record.specs.Record.{Limits, next_at, RecordTold, record_at}
 use Rattle.resync.specs.Search.{found, nothing, search_from, default_window}
 use Rattle.span.proofs.Meets.{Meets, meets}
-use Rattle.span.specs.contracts.Met.{the_type}
 use Rattle.span.specs.Met.{MetTold, end_of, met_of, meet, trace_of, not_met, told_met}
 use Rattle.span.specs.declared.Met.{Met}
 use Rattle.span.specs.declared.Met.TheVariants as Met
 
 -- an answer that is not the first case tells of no record, with a number
-pub not_at : (r : Met) → (tag_of the_type r ≡ 1) ⊎ ((tag_of the_type r ≡ 2) ⊎ (tag_of the_type r ≡ 3)) → (k : ℕ) × (told_met r ≡ not_met k)
-not_at (Met.At o e m) w = absurd (⊎_elim (λ q. omega arith) (λ q. ⊎_elim (λ p. omega arith) (λ p. omega arith) q) w)
+pub not_at : (r : Met) → ((o e m : ℕ) → r ≡ Met.At o e m → ⊥) → (k : ℕ) × (told_met r ≡ not_met k)
+not_at (Met.At o e m) w = absurd (w o e m refl)
 not_at Met.Nothing w = (0, refl)
 not_at Met.TraceTooLong w = (1, refl)
 not_at Met.WindowTooLong w = (5, refl)
 
 -- so its caller knows that there is none
-pub none_met : (r : Met) (m : MetTold) → told_met r ≡ m → (tag_of the_type r ≡ 1) ⊎ ((tag_of the_type r ≡ 2) ⊎ (tag_of the_type r ≡ 3)) → m.is_found ≡ false
+pub none_met : (r : Met) (m : MetTold) → told_met r ≡ m → ((o e n : ℕ) → r ≡ Met.At o e n → ⊥) → m.is_found ≡ false
 none_met r m e w = sym (ap (λ (x : MetTold). x.is_found) e) ∙ ap (λ (x : MetTold). x.is_found) (not_at r w).1
 
 -- an answer that is neither refusal tells of none
-pub unrefused :
-    (r : Met) → (tag_of the_type r ≡ 0) ⊎ ((tag_of the_type r ≡ 1) ⊎ (tag_of the_type r ≡ 3)) → (tag_of the_type r ≡ 0) ⊎ ((tag_of the_type r ≡ 1) ⊎ (tag_of the_type r ≡ 2))
-    → (told_met r).refusal ≡ 0
+pub unrefused : (r : Met) → (r ≡ Met.TraceTooLong → ⊥) → (r ≡ Met.WindowTooLong → ⊥) → (told_met r).refusal ≡ 0
 unrefused (Met.At o e m) p q = refl
 unrefused Met.Nothing p q = refl
-unrefused Met.TraceTooLong p q = absurd (⊎_elim (λ a. omega arith) (λ a. ⊎_elim (λ b. omega arith) (λ b. omega arith) a) p)
-unrefused Met.WindowTooLong p q = absurd (⊎_elim (λ a. omega arith) (λ a. ⊎_elim (λ b. omega arith) (λ b. omega arith) a) q)
+unrefused Met.TraceTooLong p q = absurd (p refl)
+unrefused Met.WindowTooLong p q = absurd (q refl)
 
 -- the search of a trace's bytes
 pub meets_of : (limits : Limits) (kinds s : List ℕ) → Meets (meet (trace_of limits kinds s)) (length s)

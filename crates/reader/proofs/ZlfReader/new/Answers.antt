@@ -15,18 +15,18 @@ pub returns-then-s-lt-ZLF_HEADER_SIZE : goal.returns-then-s-lt-ZLF_HEADER_SIZE
 returns-then-s-lt-ZLF_HEADER_SIZE c = too_short _ _ (omega arith) (omega arith)
 
 pub returns-then-not-sum_right : goal.returns-then-not-sum_right
-returns-then-not-sum_right c = wrong_sum_lem _ _ (omega arith) (omega arith) (sym c.sum_right.ensures ∙ not-true c.sum_right.result c.if-not-sum_right.true)
+returns-then-not-sum_right c = wrong_sum_lem _ _ (omega arith) (omega arith) (sym c.sum_right.ensures ∙ c.if-not-sum_right.true)
 
 pub returns-then-found-version : goal.returns-then-found-version
 returns-then-found-version c =
     ap (λ (v : ℕ). opening_told 4 v 0 0) c.u32_at-found.ensures
     ∙ wrong_version _ _ (omega arith) (omega arith)
-    (sym c.sum_right.ensures ∙ not-false c.sum_right.result c.if-not-sum_right.false)
+    (sym c.sum_right.ensures ∙ c.if-not-sum_right.false)
     (λ e. c.if-found-version.true (c.u32_at-found.ensures ∙ e))
 
 pub returns : goal.returns
 returns c =
     ap (λ (v : ℕ). opening_told 0 v 2048 0) c.u32_at-found.ensures
     ∙ right _ _ (omega arith) (omega arith)
-    (sym c.sum_right.ensures ∙ not-false c.sum_right.result c.if-not-sum_right.false)
+    (sym c.sum_right.ensures ∙ c.if-not-sum_right.false)
     (sym c.u32_at-found.ensures ∙ c.if-found-version.false)
