@@ -21,22 +21,22 @@ use Rattle.plain.specs.Plain.{or_later, plain_from}
 
 module _ (next : ℕ → Option ℕ) (n : ℕ) (steps : Steps next n) where
   -- records lead further on
-  pub leads_on : {at to k : ℕ} → Unbroken next to at k → at ≤ to
+  pub leads_on : {to at k : ℕ} → Unbroken next to at k → at ≤ to
   leads_on ends = omega arith
   leads_on (more {at} {m} {k} e u) = omega (arith, steps.grows at m e, leads_on u)
 
   -- and stay inside
-  pub stays_inside : {at to k : ℕ} → Unbroken next to at k → at ≤ n → to ≤ n
+  pub stays_inside : {to at k : ℕ} → Unbroken next to at k → at ≤ n → to ≤ n
   stays_inside ends h = h
   stays_inside (more {at} {m} {k} e u) h = stays_inside u (steps.inside at m e)
 
   -- one record more at the end
-  pub one_after : {at to k end : ℕ} → Unbroken next to at k → next to ≡ some end → Unbroken next end at (suc k)
+  pub one_after : {to at k end : ℕ} → Unbroken next to at k → next to ≡ some end → Unbroken next end at (suc k)
   one_after ends f = more f ends
   one_after (more e u) f = more e (one_after u f)
 
   -- of two places that records lead to from one, they lead from the one to the other that is further on
-  pub between : {at a b j k : ℕ} → Unbroken next a at j → Unbroken next b at k → a ≤ b → (i : ℕ) × Unbroken next b a i
+  pub between : {a b at j k : ℕ} → Unbroken next a at j → Unbroken next b at k → a ≤ b → (i : ℕ) × Unbroken next b a i
   between {k = k} ends v l = (k, v)
   between (more {at} {m} {k} e u) ends l = absurd (omega (arith, steps.grows at m e, leads_on u))
   between {a = a} {b = b} (more {m = m} e u) (more {m = p} {k = k} f v) l =
@@ -44,7 +44,7 @@ module _ (next : ℕ → Option ℕ) (n : ℕ) (steps : Steps next n) where
       between u (subst (λ (x : ℕ). Unbroken next b x k) (sym same) v) l
 
   -- a record stands where records lead on from, to one
-  pub stands : {at to k end : ℕ} → Unbroken next to at k → next to ≡ some end → (m : ℕ) × (next at ≡ some m)
+  pub stands : {to at k end : ℕ} → Unbroken next to at k → next to ≡ some end → (m : ℕ) × (next at ≡ some m)
   stands {end = end} ends f = (end, f)
   stands (more {m = m} e u) f = (m, e)
 
@@ -61,7 +61,7 @@ module _ (next : ℕ → Option ℕ) (n : ℕ) (steps : Steps next n) where
       let p : (p : ℕ) × (next m ≡ some p) = boundary_record next n m is in
       two_before at m p.0 e p.1 (next p.0) refl is
 
-  pub boundary_before : {at to k : ℕ} → Unbroken next to at k → boundary next n to ≡ true → boundary next n at ≡ true
+  pub boundary_before : {to at k : ℕ} → Unbroken next to at k → boundary next n to ≡ true → boundary next n at ≡ true
   boundary_before ends is = is
   boundary_before (more {at} {m} e u) is = one_before at m e (boundary_before u is)
 

@@ -68,7 +68,7 @@ module _ (t : Trace) (steps : Steps t.next t.size) (target : ℤ) where
     module _ (parted : Parted t target first) (no_earlier : NoEarlierBoundary t target first) where
       -- all records up to an earlier one are earlier, so that the plain walk passes them
       passed :
-          {at to j k end : ℕ} → Unbroken next at first j → Unbroken next to at k → next to ≡ some end → lt_z (t.millis to) target ≡ true
+          {to at j k end : ℕ} → Unbroken next at first j → Unbroken next to at k → next to ≡ some end → lt_z (t.millis to) target ≡ true
           → (lt_z (t.millis at) target ≡ true) × (plain at ≡ plain end)
       passed {to = to} {end = end} lead ends f q = (q, plain_passes t steps target to end f q)
       passed {j = j} lead (more {at} {m} {k} e u) f q =
