@@ -46,7 +46,7 @@ pti_regions =
     0x45 ∷ 0x55 ∷ 0x4C ∷ 0x52 ∷ 0x20 ∷ 0x20 ∷ 0x20 ∷ 0x20 ∷
     0x3F ∷ 0x20 ∷ 0x20 ∷ 0x20 ∷ 0x20 ∷ 0x20 ∷ 0x20 ∷ 0x20 ∷ []
 
--- Z_Wave's regions from 0 on, by `Region` of types.rs: EU, US, ANZ, HK, none, IN, IL, RU, CN, USLR, none, EULR; then 32 and 33, JP and KR;
+-- Z-Wave's regions from 0 on, by `Region` of types.rs: EU, US, ANZ, HK, none, IN, IL, RU, CN, USLR, none, EULR; then 32 and 33, JP and KR;
 -- then none
 unfoldable pub zwave_regions : List ℕ
 zwave_regions =
@@ -66,7 +66,7 @@ zwave_regions =
     0x4B ∷ 0x52 ∷ 0x20 ∷ 0x20 ∷ 0x20 ∷ 0x20 ∷ 0x20 ∷ 0x20 ∷
     0x3F ∷ 0x20 ∷ 0x20 ∷ 0x20 ∷ 0x20 ∷ 0x20 ∷ 0x20 ∷ 0x20 ∷ []
 
--- where the two tables have a region, one after the other: a Zniffer record, of kind 3, has Z_Wave's numbers, every other PTI's
+-- where the two tables have a region, one after the other: a Zniffer record, of kind 3, has Z-Wave's numbers, every other PTI's
 abbrev pub region_index : ℕ → ℕ → ℕ
 region_index kind region =
     cond (eqb kind 3) (cond (ltb region 12) (17 + region) (cond (eqb region 32) 29 (cond (eqb region 33) 30 31))) (min region 16)
