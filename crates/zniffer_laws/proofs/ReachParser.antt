@@ -80,7 +80,7 @@ module _ (i t w ch sp g r : ℕ) (head : Reached (core 2 i 0 0 t w false ch sp g
       let yes : goes_on (core_step_of (core_of p) b).result ≡ true = rw going_on in
       let next = next_of (core_of p) p.payload b (core_step_of (core_of p) b) (with_byte (core_of p) p.payload b) refl refl yes in
       let here : ltb n l ≡ true = lt-ltb n l (omega (arith, on)) in
-      let put : with_byte (core_of p) p.payload b ≡ set p.payload n b = rw (u.2, here) in
+      let put : with_byte (core_of p) p.payload b ≡ set p.payload n b = subst (λ (d : Core). with_byte d p.payload b ≡ set p.payload n b) (sym u.2) (rw here) in
       let within : n < length p.payload = omega (arith, long u.1, on, l_fits) in let within' : n < length bytes = omega (arith, are.long, on, l_fits) in
       let filled : take (n + 1) (set p.payload n b) ≡ take (n + 1) bytes = rw (add-one n, take-suc-set p.payload n b within, u.3) (sym (take-suc bytes n 0 within')) in
       ((step_of p b).parser, one_byte u.1 b (are.each n), rw next (rw going_on), rw (next, put) filled)
@@ -126,4 +126,4 @@ left_alike p in_type are h =
 
 -- the two ways together
 pub left_iff : (p : Parser) → InType (core_of p) → Bytes p.payload → (reachable_of (core_of p) ≡ true) ↔ ((q : Parser) × Left q × Alike p q)
-left_iff p in_type are = (left_alike p in_type are, λ u. rw u.2.numbers (passes (numbers_reached u.1)))
+left_iff p in_type are = (left_alike p in_type are, λ u. subst (λ (d : Core). reachable_of d ≡ true) (sym u.2.numbers) (passes (numbers_reached u.1)))
