@@ -1,0 +1,16 @@
+-- `rows::frame_count` meets its contract. The invariant: the frames counted and those from the place reached are all there are, and no more
+-- are counted than bytes are passed. The measure is what is left of the payload. Assumes nothing.
+use Prim.Native.Nat.{◌+◌, ◌-◌, ◌≤◌}
+use native.Mathlib.Omega.{arith}
+use lib.ListN.{length}
+use mathlib.Core.Path.{◌≡◌, refl, sym, ap, ◌∙◌}
+use borrow.Author.Rules.{rules}
+use Rattle.rows.specs.Frames.{frames_from}
+use Rattle.rows.proofs.Walk.{one_more_lem, none_left, past_end}
+use Rattle.rows.proofs.frame_count.Given as goal
+
+abbrev pub invariant-loop-at : goal.invariant-loop-at
+invariant-loop-at l = (l.count + length (frames_from l.kind l.outgoing l.payload l.at) ≡ length (frames_from l.kind l.outgoing l.payload 0)) × (l.count ≤ l.at)
+
+abbrev pub decreases-loop-at : goal.decreases-loop-at
+decreases-loop-at l = length l.payload - l.at
