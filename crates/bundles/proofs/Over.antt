@@ -117,12 +117,14 @@ module _ (p q : List ℕ) where
         either (good p at)
         (λ (t : good p at ≡ true).
         let rest = walk size 0 p n (next_at p at) in
+        let more : walk size 0 p (suc n) at ≡ size at rest = simp t in
         unrolled both end (p ++ q) at
         ∙ simp (good_first at t, t)
         (ap (λ (l : ℕ). both at (from (at + 1 + l + 1))) (same_length at t)
         ∙ ap (both at) (first_walk n (next_at p at))
         ∙ ap (λ (k : ℕ). both at (walk each (from k) p n (next_at p at))) {x = rest + next_at p at} {y = size at rest + at} (omega arith)
-        ∙ same at t _))
+        ∙ same at t _
+        ∙ ap (λ (k : ℕ). each at (walk each (from (k + at)) p n (next_at p at))) (sym more)))
         (λ (t : good p at ≡ false). simp t (ap from {x = at} {y = 0 + at} (omega arith)))
 
     pub first : from 0 ≡ walk each (from (taken p)) p (length p) 0
