@@ -8,5 +8,3 @@ pub mod Enough
 pub mod Fills
 pub mod Only
 pub mod Once
-pub mod Local
-pub mod Operands
