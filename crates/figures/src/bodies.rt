@@ -5,24 +5,25 @@ use crate::line::Numbers;
 use crate::say;
 use bracket::Split;
 use pti::Parsed;
+use std::io;
 
 // A body's place and length, and the place after its bracket record.
-fn split(s: Split) {
+fn split(rt: &impl Print, s: Split) -> io::Result<()> {
     let Split::Body { at, len, next } = s else {
-        return say::none();
+        return say::none(rt);
     };
-    say::fields(at as u64, len as u64);
-    say::field(next as u64);
+    say::fields(rt, at as u64, len as u64)?;
+    say::field(rt, next as u64)
 }
 
 // A body's frame: direction (0 received, 1 sent), region, channel, speed, RSSI, beam count, MPDU place and length.
-fn frame(p: Parsed) {
+fn frame(rt: &impl Print, p: Parsed) -> io::Result<()> {
     let Parsed::Frame(f) = p else {
-        return say::none();
+        return say::none(rt);
     };
-    say::field(f.direction as u64);
-    say::three(f.region, f.channel, f.speed);
-    say::heard(f.rssi, f.beam_count, f.mpdu, f.mpdu_len);
+    say::field(rt, f.direction as u64)?;
+    say::three(rt, f.region, f.channel, f.speed)?;
+    say::heard(rt, f.rssi, f.beam_count, f.mpdu, f.mpdu_len)
 }
 
 // 1 where a pair has the speed, else 0.
@@ -51,14 +52,14 @@ fn low(n: u64) -> u8 {
     (n % 256) as u8
 }
 
-pub fn ask(letter: u8, s: &[u8], n: Numbers) {
+pub fn ask(rt: &impl Print, letter: u8, s: &[u8], n: Numbers) -> io::Result<()> {
     match letter {
-        b'p' => split(bracket::next_record(s, 0)),
-        b'b' => frame(pti::parse_record(s)),
-        b't' => say::field(beam::beam_count(n.c as usize, s) as u64),
-        b'C' => say::field(pairs(low(n.c))),
-        b'c' => say::field(speed::speed_for(low(n.b), low(n.c)) as u64),
-        b'm' => say::signed(ticks::unix_millis(n.c)),
-        _ => say::text(b" ?"),
+        b'p' => split(rt, bracket::next_record(s, 0)),
+        b'b' => frame(rt, pti::parse_record(s)),
+        b't' => say::field(rt, beam::beam_count(n.c as usize, s) as u64),
+        b'C' => say::field(rt, pairs(low(n.c))),
+        b'c' => say::field(rt, speed::speed_for(low(n.b), low(n.c)) as u64),
+        b'm' => say::signed(rt, ticks::unix_millis(n.c)),
+        _ => say::text(rt, b" ?"),
     }
 }

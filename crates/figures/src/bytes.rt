@@ -2,26 +2,27 @@
 ghost use Rattle.std.specs.Prelude.{◌<◌};
 
 use crate::{made, say};
+use std::io;
 use zniffer::Used;
 use zniffer_numbers::ParserResult;
 
 // What the bytes give: C with the id, F with time, channel, speed, region and RSSI, both with the payload; I (more bytes are wanted) or X (a bad
 // byte); then how many bytes were used.
-fn given(u: Used) {
+fn given(rt: &impl Print, u: Used) -> io::Result<()> {
     let answer = u.answer;
     let r = answer.result;
     let payload = answer.payload;
-    result(r, &payload);
-    say::field(u.used as u64);
+    result(rt, r, &payload)?;
+    say::field(rt, u.used as u64)
 }
 
-fn result(r: ParserResult, payload: &[u8]) {
+fn result(rt: &impl Print, r: ParserResult, payload: &[u8]) -> io::Result<()> {
     match r {
-        ParserResult::IncompleteFrame => say::text(b" I"),
-        ParserResult::InvalidFrame => say::text(b" X"),
+        ParserResult::IncompleteFrame => say::text(rt, b" I"),
+        ParserResult::InvalidFrame => say::text(rt, b" X"),
         ParserResult::ValidCommand { id, length } => {
-            say::letter(b'C', id as u64);
-            handed(payload, length);
+            say::letter(rt, b'C', id as u64)?;
+            handed(rt, payload, length)
         }
         ParserResult::ValidFrame {
             timestamp,
@@ -31,16 +32,16 @@ fn result(r: ParserResult, payload: &[u8]) {
             rssi,
             length,
         } => {
-            say::letter(b'F', timestamp as u64);
-            say::three(channel, speed, region);
-            say::field(rssi as u64);
-            handed(payload, length);
+            say::letter(rt, b'F', timestamp as u64)?;
+            say::three(rt, channel, speed, region)?;
+            say::field(rt, rssi as u64)?;
+            handed(rt, payload, length)
         }
     }
 }
 
-fn handed(payload: &[u8], length: u8) {
-    say::hex(made::part(payload, length as usize));
+fn handed(rt: &impl Print, payload: &[u8], length: u8) -> io::Result<()> {
+    say::hex(rt, made::part(payload, length as usize))
 }
 
 // 1 where a byte is taken after the first bytes of a frame or a command, else 0.
@@ -69,9 +70,9 @@ fn taken(start: &[u8]) -> u64 {
     count
 }
 
-pub fn ask(letter: u8, s: &[u8]) {
+pub fn ask(rt: &impl Print, letter: u8, s: &[u8]) -> io::Result<()> {
     if letter == b'y' {
-        return given(zniffer_lent::parse_all(s));
+        return given(rt, zniffer_lent::parse_all(s));
     }
-    say::field(taken(s));
+    say::field(rt, taken(s))
 }

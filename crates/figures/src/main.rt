@@ -15,9 +15,10 @@ mod sequence; // the header sum, opening and reading in sequence
 
 ghost use Rattle.std.specs.Prelude.{◌≡◌, ◌+◌, ◌<◌, ◌≤◌, length};
 
-use libc::STDIN_FILENO;
 use line::Numbers;
 use made::Made;
+use std::io;
+use std::process::ExitCode;
 
 // Room for a trace that is longer than the first window of a search.
 fn room() -> [u8; 1050688]
@@ -27,37 +28,44 @@ fn room() -> [u8; 1050688]
 }
 
 // What a letter asks.
-fn ask(letter: u8, s: &[u8], kinds: &[u8; 256], n: Numbers) {
+fn ask(rt: &impl Print, letter: u8, s: &[u8], kinds: &[u8; 256], n: Numbers) -> io::Result<()> {
     match letter {
-        b'o' | b'f' | b'R' | b'u' => pages::ask(letter, s, kinds, n),
-        b'r' | b'B' | b'n' | b'd' => records::ask(letter, s, kinds, n),
-        b's' | b'k' | b'j' => seeks::ask(letter, s, kinds, n),
-        b'g' | b'q' | b'e' => sequence::ask(letter, s, kinds, n),
-        b'y' | b'G' => bytes::ask(letter, s),
-        _ => bodies::ask(letter, s, n),
+        b'o' | b'f' | b'R' | b'u' => pages::ask(rt, letter, s, kinds, n),
+        b'r' | b'B' | b'n' | b'd' => records::ask(rt, letter, s, kinds, n),
+        b's' | b'k' | b'j' => seeks::ask(rt, letter, s, kinds, n),
+        b'g' | b'q' | b'e' => sequence::ask(rt, letter, s, kinds, n),
+        b'y' | b'G' => bytes::ask(rt, letter, s),
+        _ => bodies::ask(rt, letter, s, n),
     }
 }
 
 // A figure: its name, and the answer.
-fn answer(name: &[u8], letter: u8, n: Numbers, s: &[u8], m: Made) {
+fn answer(
+    rt: &impl Print,
+    name: &[u8],
+    letter: u8,
+    n: Numbers,
+    s: &[u8],
+    m: Made,
+) -> io::Result<()> {
     let kinds = made::kinds(m.kinds);
-    say::text(name);
-    ask(letter, made::part(s, m.len), &kinds, n);
-    say::end();
+    say::text(rt, name)?;
+    ask(rt, letter, made::part(s, m.len), &kinds, n)?;
+    say::end(rt)
 }
 
 // A line without a name makes something, and one with a name asks of what is made; what begins with # is for the reader.
-fn read(name: &[u8], command: &[u8], s: &mut [u8], m: Made) -> Made {
+fn read(rt: &impl Print, name: &[u8], command: &[u8], s: &mut [u8], m: Made) -> io::Result<Made> {
     let letter = layout::u8_at(command, 1);
     let n = line::read(command);
     if name.len() == 0 {
-        return made::make(letter, command, n, s, m);
+        return Ok(made::make(letter, command, n, s, m));
     }
     if name[0] == b'#' {
-        return m;
+        return Ok(m);
     }
-    answer(name, letter, n, s, m);
-    m
+    answer(rt, name, letter, n, s, m)?;
+    Ok(m)
 }
 
 // Where a line's name ends, which is after its last colon; where the line ends; and where the next one begins.
@@ -103,21 +111,27 @@ fn line_at(script: &[u8], from: usize) -> Ends
 }
 
 // Reads line after line.
-fn run(script: &[u8], s: &mut [u8]) {
+fn run(rt: &impl Print, script: &[u8], s: &mut [u8]) -> io::Result<()> {
     let mut m = Made { len: 0, kinds: 0 };
     let mut at: usize = 0;
     while at < script.len() {
         let l = line_at(script, at);
         let colon = l.colon;
         let end = l.end;
-        m = read(&script[at..colon], &script[colon..end], s, m);
+        m = read(rt, &script[at..colon], &script[colon..end], s, m)?;
         at = l.next;
     }
+    Ok(())
 }
 
-fn main() {
+// Reads the figures, and answers them.
+fn answered(rt: &(impl Input + Print)) -> io::Result<()> {
     let mut script = [0u8; 16384];
-    let n = io::read_full(STDIN_FILENO, &mut script);
+    let n = streams::read_full(&mut rt.reader(), &mut script);
     let mut s = room();
-    run(&script[..n], &mut s);
+    run(rt, &script[..n], &mut s)
+}
+
+fn main(rt: HostRuntime) -> io::Result<ExitCode> {
+    streams::ended(answered(&rt))
 }

@@ -3,6 +3,7 @@ use crate::line::Numbers;
 use crate::say;
 use record::Record;
 use resync::{Boundary, Search};
+use std::io;
 
 fn is_valid(r: Record) -> bool {
     let Record::Valid { header: _ } = r else {
@@ -19,24 +20,27 @@ fn begins(b: Boundary) -> bool {
 }
 
 // What a search found, or none, and how many offsets it judged.
-fn search(r: Search) {
+fn search(rt: &impl Print, r: Search) -> io::Result<()> {
     match r {
-        Search::Found { offset, judged } => say::fields(offset as u64, judged as u64),
+        Search::Found { offset, judged } => say::fields(rt, offset as u64, judged as u64),
         Search::Nothing { judged } => {
-            say::none();
-            say::field(judged as u64);
+            say::none(rt)?;
+            say::field(rt, judged as u64)
         }
-        Search::TraceTooLong => say::letter(b'R', 1),
-        Search::WindowTooLong => say::letter(b'R', 5),
+        Search::TraceTooLong => say::letter(rt, b'R', 1),
+        Search::WindowTooLong => say::letter(rt, b'R', 5),
     }
 }
 
-pub fn ask(letter: u8, s: &[u8], kinds: &[u8; 256], n: Numbers) {
+pub fn ask(rt: &impl Print, letter: u8, s: &[u8], kinds: &[u8; 256], n: Numbers) -> io::Result<()> {
     let at = n.c as usize;
     match letter {
-        b'r' => say::whether(is_valid(record::read_record(kinds, s, at))),
-        b'B' => say::whether(begins(resync::is_boundary(kinds, s, at))),
-        b'n' => search(resync::next_record_at(kinds, s, n.b as usize, at)),
-        _ => search(resync::next_record_at(kinds, s, at, resync::DEFAULT_WINDOW)),
+        b'r' => say::whether(rt, is_valid(record::read_record(kinds, s, at))),
+        b'B' => say::whether(rt, begins(resync::is_boundary(kinds, s, at))),
+        b'n' => search(rt, resync::next_record_at(kinds, s, n.b as usize, at)),
+        _ => search(
+            rt,
+            resync::next_record_at(kinds, s, at, resync::DEFAULT_WINDOW),
+        ),
     }
 }

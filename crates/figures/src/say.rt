@@ -1,77 +1,76 @@
 // What is printed: fields with a space before each.
 use crate::made;
-use libc::STDOUT_FILENO;
+use std::io;
 
-pub fn text(t: &[u8]) {
-    io::write_all(STDOUT_FILENO, t);
+pub fn text(rt: &impl Print, t: &[u8]) -> io::Result<()> {
+    rt.write_all(t)
 }
 
-pub fn end() {
-    text(b"\n");
+pub fn end(rt: &impl Print) -> io::Result<()> {
+    text(rt, b"\n")
 }
 
 // A number.
-pub fn field(n: u64) {
-    text(b" ");
-    io::print_decimal(STDOUT_FILENO, n);
+pub fn field(rt: &impl Print, n: u64) -> io::Result<()> {
+    text(rt, b" ")?;
+    rt.print(n)
 }
 
-pub fn fields(a: u64, b: u64) {
-    field(a);
-    field(b);
+pub fn fields(rt: &impl Print, a: u64, b: u64) -> io::Result<()> {
+    field(rt, a)?;
+    field(rt, b)
 }
 
-pub fn signed(z: i64) {
+pub fn signed(rt: &impl Print, z: i64) -> io::Result<()> {
     if z < 0 {
-        text(b" -");
-        io::print_decimal(STDOUT_FILENO, text::magnitude(z));
-        return;
+        text(rt, b" -")?;
+        return rt.print(text::magnitude(z));
     }
-    field(text::magnitude(z));
+    field(rt, text::magnitude(z))
 }
 
 // Bytes in hexadecimal, or - where there is none.
-pub fn hex(bytes: &[u8]) {
+pub fn hex(rt: &impl Print, bytes: &[u8]) -> io::Result<()> {
     if bytes.len() == 0 {
-        return text(b" -");
+        return text(rt, b" -");
     }
     let mut digits = [0u8; 512];
     let n = text::put_hex(&mut digits, 0, bytes);
-    text(b" ");
-    text(made::part(&digits, n));
+    text(rt, b" ")?;
+    text(rt, made::part(&digits, n))
 }
 
 // A letter, and a number.
-pub fn letter(l: u8, n: u64) {
+pub fn letter(rt: &impl Print, l: u8, n: u64) -> io::Result<()> {
     let word = [b' ', l];
-    text(&word);
-    field(n);
+    text(rt, &word)?;
+    field(rt, n)
 }
 
 // What is said of nothing found, of yes and of no.
-pub fn none() {
-    text(b" none");
+pub fn none(rt: &impl Print) -> io::Result<()> {
+    text(rt, b" none")
 }
 
-pub fn whether(yes: bool) {
+pub fn whether(rt: &impl Print, yes: bool) -> io::Result<()> {
     if yes {
-        return text(b" yes");
+        return text(rt, b" yes");
     }
-    text(b" no");
+    text(rt, b" no")
 }
 
 // Three bytes, as numbers.
-pub fn three(a: u8, b: u8, c: u8) {
-    field(a as u64);
-    field(b as u64);
-    field(c as u64);
+pub fn three(rt: &impl Print, a: u8, b: u8, c: u8) -> io::Result<()> {
+    field(rt, a as u64)?;
+    field(rt, b as u64)?;
+    field(rt, c as u64)
 }
 
 // What a row and a PTI frame end with: RSSI, beam count, MPDU place and length.
-pub fn heard(rssi: i8, beams: u16, mpdu: usize, len: usize) {
-    signed(from_i8(rssi));
-    field(beams as u64);
-    fields(mpdu as u64, len as u64);
+pub fn heard(rt: &impl Print, rssi: i8, beams: u16, mpdu: usize, len: usize) -> io::Result<()> {
+    signed(rt, from_i8(rssi))?;
+    field(rt, beams as u64)?;
+    fields(rt, mpdu as u64, len as u64)
 }
 
 fn from_i8(x: i8) -> i64 {

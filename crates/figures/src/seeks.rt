@@ -3,60 +3,61 @@ use crate::line::Numbers;
 use crate::say;
 use seek::{Found, SeekState, SeekStep, SeekTime};
 use span::Span;
+use std::io;
 
-fn span(s: Span) {
+fn span(rt: &impl Print, s: Span) -> io::Result<()> {
     let Span::Times { first, last } = s else {
-        return say::none();
+        return say::none(rt);
     };
-    say::fields(first, last);
+    say::fields(rt, first, last)
 }
 
 // What a whole seek found, or none, and its number of halvings.
-fn whole(t: SeekTime) {
+fn whole(rt: &impl Print, t: SeekTime) -> io::Result<()> {
     match t {
-        SeekTime::Found { offset, halvings } => say::fields(offset as u64, halvings as u64),
+        SeekTime::Found { offset, halvings } => say::fields(rt, offset as u64, halvings as u64),
         SeekTime::Nothing { halvings } => {
-            say::none();
-            say::field(halvings as u64);
+            say::none(rt)?;
+            say::field(rt, halvings as u64)
         }
-        SeekTime::TraceTooLong => say::letter(b'R', 1),
+        SeekTime::TraceTooLong => say::letter(rt, b'R', 1),
     }
 }
 
 // A state: S with lo and hi, or C with the place to scan from.
-fn state(s: SeekState) {
+fn state(rt: &impl Print, s: SeekState) -> io::Result<()> {
     match s {
         SeekState::Searching { lo, hi } => {
-            say::letter(b'S', lo as u64);
-            say::field(hi as u64);
+            say::letter(rt, b'S', lo as u64)?;
+            say::field(rt, hi as u64)
         }
-        SeekState::Scanning { at } => say::letter(b'C', at as u64),
+        SeekState::Scanning { at } => say::letter(rt, b'C', at as u64),
     }
 }
 
-fn found(f: Found) {
+fn found(rt: &impl Print, f: Found) -> io::Result<()> {
     match f {
-        Found::At { offset } => say::field(offset as u64),
-        Found::Nothing => say::none(),
+        Found::At { offset } => say::field(rt, offset as u64),
+        Found::Nothing => say::none(rt),
     }
 }
 
-fn step(s: SeekStep) {
+fn step(rt: &impl Print, s: SeekStep) -> io::Result<()> {
     match s {
         SeekStep::More { state: then } => {
-            say::text(b" more");
-            state(then);
+            say::text(rt, b" more")?;
+            state(rt, then)
         }
         SeekStep::Scan { state: then } => {
-            say::text(b" scan");
-            state(then);
+            say::text(rt, b" scan")?;
+            state(rt, then)
         }
         SeekStep::Done { found: f } => {
-            say::text(b" done");
-            found(f);
+            say::text(rt, b" done")?;
+            found(rt, f)
         }
-        SeekStep::TraceTooLong => say::letter(b'R', 1),
-        SeekStep::WindowTooLong => say::letter(b'R', 5),
+        SeekStep::TraceTooLong => say::letter(rt, b'R', 1),
+        SeekStep::WindowTooLong => say::letter(rt, b'R', 5),
     }
 }
 
@@ -65,16 +66,16 @@ fn time(n: u64) -> i64 {
     (n % 9_223_372_036_854_775_808) as i64
 }
 
-pub fn ask(letter: u8, s: &[u8], kinds: &[u8; 256], n: Numbers) {
+pub fn ask(rt: &impl Print, letter: u8, s: &[u8], kinds: &[u8; 256], n: Numbers) -> io::Result<()> {
     if letter == b's' {
-        return span(span::time_span(kinds, s));
+        return span(rt, span::time_span(kinds, s));
     }
     if letter == b'k' {
-        return whole(seek::seek_time(kinds, s, time(n.c)));
+        return whole(rt, seek::seek_time(kinds, s, time(n.c)));
     }
     let first = SeekState::Searching {
         lo: n.b as usize,
         hi: n.c as usize,
     };
-    step(seek::seek_step(kinds, s, time(n.a), first));
+    step(rt, seek::seek_step(kinds, s, time(n.a), first))
 }

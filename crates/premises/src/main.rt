@@ -4,11 +4,15 @@
 
 mod traces;
 
-ghost use Rattle.std.specs.Prelude.{length, ◌≡◌};
+ghost use Rattle.std.specs.Prelude.{IfOk, vec_len, ◌≡◌};
 
-use libc::{STDERR_FILENO, STDOUT_FILENO};
 use plain::PlainSeek;
 use seek::{Found, SeekStart, SeekState, SeekStep, SeekTime};
+use std::alloc::{AllocError, Global};
+use std::env::FillError;
+use std::io;
+use std::process::ExitCode;
+use std::rt::Env;
 
 // A second after the traces' start, and two.
 const SECOND: i64 = 1_714_552_201_000;
@@ -16,10 +20,10 @@ const SECOND: i64 = 1_714_552_201_000;
 const TWO: i64 = 1_714_552_202_000;
 
 // The longest trace fits.
-fn room() -> [u8; 3147818]
-    ensures { 3147818 ≡ length result }
+fn room(alloc: Global) -> Result<Vec<u8>, AllocError>
+    ensures { IfOk result (λ bytes. vec_len bytes ≡ 3147818) }
 {
-    [0; 3147818]
+    vec![in alloc; 0; 3147818]
 }
 
 // A trace by the first letter of its name, and how long it is; 0 for no such letter.
@@ -42,47 +46,47 @@ fn made(out: &mut [u8], letter: u8) -> usize {
     0
 }
 
-fn put_found(name: &[u8], found: bool, offset: usize) {
-    io::write_all(STDOUT_FILENO, name);
+fn put_found(rt: &impl Print, name: &[u8], found: bool, offset: usize) -> io::Result<()> {
+    rt.write_all(name)?;
     if found {
-        io::print_decimal(STDOUT_FILENO, offset as u64);
+        rt.print(offset)
     } else {
-        io::write_all(STDOUT_FILENO, b"none");
+        rt.write_all(b"none")
     }
 }
 
-fn plain(kinds: &[u8; 256], s: &[u8], target: i64) {
+fn plain(rt: &impl Print, kinds: &[u8; 256], s: &[u8], target: i64) -> io::Result<()> {
     if let PlainSeek::Found { offset } = plain::plain_seek(kinds, s, target) {
-        put_found(b" plain ", true, offset);
+        put_found(rt, b" plain ", true, offset)
     } else {
-        put_found(b" plain ", false, 0);
+        put_found(rt, b" plain ", false, 0)
     }
 }
 
-fn whole(kinds: &[u8; 256], s: &[u8], target: i64) {
+fn whole(rt: &impl Print, kinds: &[u8; 256], s: &[u8], target: i64) -> io::Result<()> {
     if let SeekTime::Found {
         offset,
         halvings: _,
     } = seek::seek_time(kinds, s, target)
     {
-        put_found(b" whole ", true, offset);
+        put_found(rt, b" whole ", true, offset)
     } else {
-        put_found(b" whole ", false, 0);
+        put_found(rt, b" whole ", false, 0)
     }
 }
 
-fn done(f: Found) {
+fn done(rt: &impl Print, f: Found) -> io::Result<()> {
     if let Found::At { offset } = f {
-        put_found(b" stepped ", true, offset);
+        put_found(rt, b" stepped ", true, offset)
     } else {
-        put_found(b" stepped ", false, 0);
+        put_found(rt, b" stepped ", false, 0)
     }
 }
 
 // The stepped seek, driven to its end: these traces take few steps.
-fn stepped(kinds: &[u8; 256], s: &[u8], target: i64) {
+fn stepped(rt: &impl Print, kinds: &[u8; 256], s: &[u8], target: i64) -> io::Result<()> {
     let SeekStart::From { state: start } = seek::seek_start(kinds, s) else {
-        return;
+        return Ok(());
     };
     let mut state = start;
     let mut steps: u8 = 0;
@@ -96,68 +100,87 @@ fn stepped(kinds: &[u8; 256], s: &[u8], target: i64) {
                 state = next;
             }
             SeekStep::Done { found } => {
-                done(found);
-                return;
+                return done(rt, found);
             }
             SeekStep::TraceTooLong => {
-                return;
+                return Ok(());
             }
             SeekStep::WindowTooLong => {
-                return;
+                return Ok(());
             }
         }
     }
+    Ok(())
 }
 
 // One line: the trace's name, and what each seek finds.
-fn answers(kinds: &[u8; 256], out: &mut [u8], name: &[u8], letter: u8, target: i64) {
+fn answers(
+    rt: &impl Print,
+    kinds: &[u8; 256],
+    out: &mut [u8],
+    name: &[u8],
+    letter: u8,
+    target: i64,
+) -> io::Result<()> {
     let n = made(out, letter);
-    io::write_all(STDOUT_FILENO, name);
-    io::write_all(STDOUT_FILENO, b":");
+    rt.write_all(name)?;
+    rt.write_all(b":")?;
     if n <= out.len() {
-        plain(kinds, &out[..n], target);
-        whole(kinds, &out[..n], target);
-        stepped(kinds, &out[..n], target);
+        plain(rt, kinds, &out[..n], target)?;
+        whole(rt, kinds, &out[..n], target)?;
+        stepped(rt, kinds, &out[..n], target)?;
     }
-    io::write_all(STDOUT_FILENO, b"\n");
+    rt.write_all(b"\n")
 }
 
-fn all(out: &mut [u8]) {
+fn all(rt: &impl Print, out: &mut [u8]) -> io::Result<()> {
     let mut kinds = [0u8; 256];
     kinds[0xFE] = 3;
-    answers(&kinds, out, b"tail", b't', SECOND);
-    answers(&kinds, out, b"falling", b'f', SECOND);
-    answers(&kinds, out, b"nested", b'n', SECOND);
-    answers(&kinds, out, b"distant", b'd', SECOND);
-    answers(&kinds, out, b"large", b'l', TWO);
+    answers(rt, &kinds, out, b"tail", b't', SECOND)?;
+    answers(rt, &kinds, out, b"falling", b'f', SECOND)?;
+    answers(rt, &kinds, out, b"nested", b'n', SECOND)?;
+    answers(rt, &kinds, out, b"distant", b'd', SECOND)?;
+    answers(rt, &kinds, out, b"large", b'l', TWO)
 }
 
 // Writes the trace of a letter.
-fn written(out: &mut [u8], letter: u8) {
+fn written(rt: &(impl Print + Eprint), out: &mut [u8], letter: u8) -> io::Result<()> {
     let n = made(out, letter);
     if n == 0 {
-        io::write_all(
-            STDERR_FILENO,
-            b"premises: which trace? t (tail), f (falling), n (nested), d (distant) or l (large)\n",
-        );
+        rt.eprintln(
+            "premises: which trace? t (tail), f (falling), n (nested), d (distant) or l (large)",
+        )?;
     }
     if n <= out.len() {
-        io::write_all(STDOUT_FILENO, &out[..n]);
+        return rt.write_all(&out[..n]);
     }
+    Ok(())
 }
 
-// The argument, where it is one letter; else 0.
-fn asked() -> u8 {
+// What the first argument asks: there is none, or it is one letter, else 0.
+#[derive(Clone, Copy)]
+enum Wanted {
+    All,
+    Trace(u8),
+}
+
+fn asked(rt: &impl Env) -> Wanted {
     let mut word = [0u8; 16];
-    let n = os::arg(1, &mut word);
-    if n == 1 { word[0] } else { 0 }
+    match rt.arg(1, &mut word) {
+        Ok(1) => Wanted::Trace(word[0]),
+        Err(FillError::NotPresent) => Wanted::All,
+        _ => Wanted::Trace(0),
+    }
 }
 
-fn main() {
-    let mut out = room();
-    if os::arg_count() < 2 {
-        all(&mut out);
-    } else {
-        written(&mut out, asked());
+fn run(rt: &(impl Print + Eprint + Env + AllocGlobal)) -> io::Result<()> {
+    let mut out = room(rt.alloc())?;
+    match asked(rt) {
+        Wanted::All => all(rt, &mut out),
+        Wanted::Trace(letter) => written(rt, &mut out, letter),
     }
+}
+
+fn main(rt: HostRuntime) -> io::Result<ExitCode> {
+    streams::ended(run(&rt))
 }

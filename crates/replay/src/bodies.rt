@@ -64,7 +64,7 @@ fn part(payload: &[u8], at: usize, len: usize) -> Said {
 }
 
 // A line for each body: its place, its length and its frame.
-fn parts(payload: &[u8], lines: &mut [u8], line: usize) -> usize {
+fn parts(rt: &impl Print, payload: &[u8], lines: &mut [u8], line: usize) -> usize {
     let mut to = line;
     let mut from = 0;
     let mut i = 0;
@@ -74,7 +74,7 @@ fn parts(payload: &[u8], lines: &mut [u8], line: usize) -> usize {
             return to;
         };
         let place = out::words(out::LINE, 2, at as u64, len as u64, 0);
-        to = out::put_both(lines, to, place, part(payload, at, len));
+        to = out::put_both(rt, lines, to, place, part(payload, at, len));
         from = next;
         i += 1;
     }
@@ -82,8 +82,8 @@ fn parts(payload: &[u8], lines: &mut [u8], line: usize) -> usize {
 }
 
 // One payload: the number of its bodies, and a line for each.
-pub fn payload(case: &[u8], lines: &mut [u8], line: usize) -> usize {
+pub fn payload(rt: &impl Print, case: &[u8], lines: &mut [u8], line: usize) -> usize {
     let bytes = out::bytes_of(case);
-    let next = out::put_said(lines, line, out::words(0, 1, count(bytes), 0, 0));
-    parts(bytes, lines, next)
+    let next = out::put_said(rt, lines, line, out::words(0, 1, count(bytes), 0, 0));
+    parts(rt, bytes, lines, next)
 }

@@ -3,10 +3,10 @@ use crate::out;
 use crate::out::Said;
 
 // The version, and a digit for each entry of the table.
-pub fn kinds(case: &[u8], lines: &mut [u8], line: usize) -> usize {
+pub fn kinds(rt: &impl Print, case: &[u8], lines: &mut [u8], line: usize) -> usize {
     let version = layout::u32_at(case, 1) as u64;
-    let next = out::put_said(lines, line, out::words(0, 1, version, 0, 0));
-    out::put_digits(lines, next, table(case))
+    let next = out::put_said(rt, lines, line, out::words(0, 1, version, 0, 0));
+    out::put_digits(rt, lines, next, table(case))
 }
 
 // The kind table of a case K.
@@ -42,12 +42,17 @@ pub fn speed(case: &[u8]) -> Said {
 }
 
 // A line for each channel, with a digit for each region.
-pub fn speeds(lines: &mut [u8], line: usize) -> usize {
+pub fn speeds(rt: &impl Print, lines: &mut [u8], line: usize) -> usize {
     let mut next = line;
     let mut channel: usize = 0;
     while channel < 256 {
-        next = out::put_said(lines, next, out::words(out::LINE, 1, channel as u64, 0, 0));
-        next = out::put_digits(lines, next, regions(channel as u8));
+        next = out::put_said(
+            rt,
+            lines,
+            next,
+            out::words(out::LINE, 1, channel as u64, 0, 0),
+        );
+        next = out::put_digits(rt, lines, next, regions(channel as u8));
         channel += 1;
     }
     next

@@ -11,10 +11,11 @@ mod seeks;
 mod sequence;
 mod stream;
 
-ghost use Rattle.std.specs.Prelude.{◌≡◌, ◌<◌, ◌≤◌, length};
+ghost use Rattle.std.specs.Prelude.{◌≡◌, ◌<◌, ◌≤◌, length, IfOk, vec_len};
 
 use crate::out::Said;
-use libc::STDIN_FILENO;
+use std::alloc::{AllocError, Global};
+use std::process::ExitCode;
 
 // Where the next case begins, where the lines go on, how many cases were answered, and which part of the cases is the trace.
 #[derive(Clone, Copy)]
@@ -34,10 +35,10 @@ pub struct Given {
 }
 
 // The cases, of which there may be so many bytes.
-fn room() -> [u8; 4194304]
-    ensures { 4194304 ≡ length result }
+fn room(alloc: Global) -> Result<Vec<u8>, AllocError>
+    ensures { IfOk result (λ bytes. vec_len bytes ≡ 4194304) }
 {
-    [0; 4194304]
+    vec![in alloc; 0; 4194304]
 }
 
 // How long a case's letter and its fields of fixed length are; 0 for an unknown letter.
@@ -113,6 +114,7 @@ fn is_long(letter: u8) -> bool {
 
 // What such a case's lines say after its letter: of one about the trace, and of any.
 fn listed(
+    rt: &impl Print,
     letter: u8,
     case: &[u8],
     trace: &[u8],
@@ -122,55 +124,70 @@ fn listed(
     line: usize,
 ) -> usize {
     if letter == b'q' {
-        return sequence::opened(version, trace, kinds, lines, line);
+        return sequence::opened(rt, version, trace, kinds, lines, line);
     }
     if letter == b'Q' {
-        return sequence::from(case, trace, kinds, lines, line);
+        return sequence::from(rt, case, trace, kinds, lines, line);
     }
     if (letter == b'f') | (letter == b'F') {
-        return pages::listed(letter, case, trace, kinds, lines, line);
+        return pages::listed(rt, letter, case, trace, kinds, lines, line);
     }
-    spread(letter, case, lines, line)
+    spread(rt, letter, case, lines, line)
 }
 
 // Of any other.
-fn spread(letter: u8, case: &[u8], lines: &mut [u8], line: usize) -> usize {
+fn spread(rt: &impl Print, letter: u8, case: &[u8], lines: &mut [u8], line: usize) -> usize {
     if letter == b'K' {
-        return leaves::kinds(case, lines, line);
+        return leaves::kinds(rt, case, lines, line);
     }
     if letter == b'C' {
-        return leaves::speeds(lines, line);
+        return leaves::speeds(rt, lines, line);
     }
     if letter == b'G' {
-        return out::put_digits(lines, line, stream::regions());
+        return out::put_digits(rt, lines, line, stream::regions());
     }
     if letter == b'p' {
-        return bodies::payload(case, lines, line);
+        return bodies::payload(rt, case, lines, line);
     }
     if letter == b'z' {
-        return stream::one_by_one(case, lines, line);
+        return stream::one_by_one(rt, case, lines, line);
     }
     if letter == b'w' {
-        return stream::in_pieces(case, lines, line);
+        return stream::in_pieces(rt, case, lines, line);
     }
-    stream::at_once(case, lines, line)
+    stream::at_once(rt, case, lines, line)
 }
 
 // The answer to one case.
-fn answer(case: &[u8], trace: &[u8], g: Given, lines: &mut [u8], line: usize) -> usize {
+fn answer(
+    rt: &impl Print,
+    case: &[u8],
+    trace: &[u8],
+    g: Given,
+    lines: &mut [u8],
+    line: usize,
+) -> usize {
     let letter = layout::u8_at(case, 0);
-    let next = out::put_byte(lines, line, letter);
-    let end = chosen(letter, case, trace, g, lines, next);
-    out::put_byte(lines, end, b'\n')
+    let next = out::put_byte(rt, lines, line, letter);
+    let end = chosen(rt, letter, case, trace, g, lines, next);
+    out::put_byte(rt, lines, end, b'\n')
 }
 
-fn chosen(letter: u8, case: &[u8], trace: &[u8], g: Given, lines: &mut [u8], line: usize) -> usize {
+fn chosen(
+    rt: &impl Print,
+    letter: u8,
+    case: &[u8],
+    trace: &[u8],
+    g: Given,
+    lines: &mut [u8],
+    line: usize,
+) -> usize {
     let kinds = g.kinds;
     if is_long(letter) {
-        return listed(letter, case, trace, g.version, &kinds, lines, line);
+        return listed(rt, letter, case, trace, g.version, &kinds, lines, line);
     }
     let s = asked(letter, case, trace, g.version, &kinds);
-    out::put_said(lines, line, s)
+    out::put_said(rt, lines, line, s)
 }
 
 // The part of the cases that is a trace.
@@ -225,7 +242,7 @@ fn set_by(case: &[u8], g: Given) -> Given {
 }
 
 // Answers the cases one after the other, up to the end or to one that is unknown or cut off.
-fn answers(b: &mut [u8], lines: &mut [u8]) -> Place {
+fn answers(rt: &impl Print, b: &mut [u8], lines: &mut [u8]) -> Place {
     let mut g = Given {
         version: 0,
         kinds: [0; 256],
@@ -252,7 +269,7 @@ fn answers(b: &mut [u8], lines: &mut [u8]) -> Place {
         let to = part.to;
         changed(b, at, from, to);
         g = set_by(&b[at..end], g);
-        let line = answer(&b[at..end], &b[from..to], g, lines, p.line);
+        let line = answer(rt, &b[at..end], &b[from..to], g, lines, p.line);
         p = Place {
             at: end,
             line,
@@ -265,26 +282,31 @@ fn answers(b: &mut [u8], lines: &mut [u8]) -> Place {
 }
 
 // Says where the answers stopped, if they stopped before the end.
-fn stop(at: usize, end: usize, lines: &mut [u8], line: usize) -> usize {
+fn stop(rt: &impl Print, at: usize, end: usize, lines: &mut [u8], line: usize) -> usize {
     if at == end {
         return line;
     }
-    let text = out::put_text(lines, line, b"unknown or cut off at");
-    let place = out::put_said(lines, text, out::words(0, 1, at as u64, 0, 0));
-    out::put_byte(lines, place, b'\n')
+    let text = out::put_text(rt, lines, line, b"unknown or cut off at");
+    let place = out::put_said(rt, lines, text, out::words(0, 1, at as u64, 0, 0));
+    out::put_byte(rt, lines, place, b'\n')
 }
 
-fn run(b: &mut [u8], lines: &mut [u8]) {
-    let p = answers(b, lines);
-    let stopped = stop(p.at, b.len(), lines, p.line);
-    let count = out::put_said(lines, stopped, out::words(out::END, 1, p.cases, 0, 0));
-    let end = out::put_byte(lines, count, b'\n');
-    out::flush(lines, end);
+fn run(rt: &impl Print, b: &mut [u8], lines: &mut [u8]) -> std::io::Result<()> {
+    let p = answers(rt, b, lines);
+    let stopped = stop(rt, p.at, b.len(), lines, p.line);
+    let count = out::put_said(rt, lines, stopped, out::words(out::END, 1, p.cases, 0, 0));
+    let end = out::put_byte(rt, lines, count, b'\n');
+    out::flush(rt, lines, end)
 }
 
-fn main() {
-    let mut cases = room();
-    let n = io::read_full(STDIN_FILENO, &mut cases);
+// Reads the cases, and answers them.
+fn replayed(rt: &(impl Input + Print + AllocGlobal)) -> std::io::Result<()> {
+    let mut cases = room(rt.alloc())?;
+    let n = streams::read_full(&mut rt.reader(), &mut cases);
     let mut lines = io::large_buffer();
-    run(&mut cases[..n], &mut lines);
+    run(rt, &mut cases[..n], &mut lines)
+}
+
+fn main(rt: HostRuntime) -> std::io::Result<ExitCode> {
+    streams::ended(replayed(&rt))
 }

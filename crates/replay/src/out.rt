@@ -1,7 +1,6 @@
 // Lines for standard output. They are gathered in a lent buffer, which is written whenever it is full: each function takes the
 // place where the buffer's free part begins, and gives the place after what it put there. Answers are worked out by value, as what
 // they say, and put in one go.
-use libc::STDOUT_FILENO;
 
 // What an answer says: a word, numbers with a space before each, and a letter. The word is its bytes as one number, the first
 // byte highest, and nothing where it is 0, as the letter. The numbers from `signed` up to `plain` have a sign: they are the bits
@@ -75,45 +74,46 @@ pub fn refused(number: u64) -> Said {
     words(REFUSED, 1, number, 0, 0)
 }
 
-pub fn put_byte(out: &mut [u8], at: usize, b: u8) -> usize {
+// Where a full buffer cannot be written, the bytes in it are lost, and the last write says so.
+pub fn put_byte(rt: &impl Print, out: &mut [u8], at: usize, b: u8) -> usize {
     if at < out.len() {
         out[at] = b;
         return at + 1;
     }
-    io::write_all(STDOUT_FILENO, out);
+    let _ = rt.write_all(out);
     if 0 < out.len() {
         out[0] = b;
     }
     1
 }
 
-pub fn put_text(out: &mut [u8], at: usize, text: &[u8]) -> usize {
+pub fn put_text(rt: &impl Print, out: &mut [u8], at: usize, text: &[u8]) -> usize {
     let mut next = at;
     let mut i = 0;
     while i < text.len() {
-        next = put_byte(out, next, text[i]);
+        next = put_byte(rt, out, next, text[i]);
         i += 1;
     }
     next
 }
 
-fn put_decimal(out: &mut [u8], at: usize, n: u64) -> usize {
+fn put_decimal(rt: &impl Print, out: &mut [u8], at: usize, n: u64) -> usize {
     let mut text = [0u8; 20];
     let k = io::decimal(n, &mut text);
-    put_text(out, at, &text[..k])
+    put_text(rt, out, at, &text[..k])
 }
 
 // A space, and the number.
-fn put_number(out: &mut [u8], at: usize, n: u64, has_sign: bool) -> usize {
-    let next = put_byte(out, at, b' ');
+fn put_number(rt: &impl Print, out: &mut [u8], at: usize, n: u64, has_sign: bool) -> usize {
+    let next = put_byte(rt, out, at, b' ');
     if has_sign & (0x8000_0000_0000_0000 <= n) {
-        let after = put_byte(out, next, b'-');
-        return put_decimal(out, after, std::num::wrapping_add_u64(!n, 1));
+        let after = put_byte(rt, out, next, b'-');
+        return put_decimal(rt, out, after, std::num::wrapping_add_u64(!n, 1));
     }
-    put_decimal(out, next, n)
+    put_decimal(rt, out, next, n)
 }
 
-fn put_list(out: &mut [u8], at: usize, s: Said) -> usize {
+fn put_list(rt: &impl Print, out: &mut [u8], at: usize, s: Said) -> usize {
     let list = s.list;
     let mut next = at;
     let mut i = 0;
@@ -121,64 +121,65 @@ fn put_list(out: &mut [u8], at: usize, s: Said) -> usize {
         if i == s.count {
             return next;
         }
-        next = put_number(out, next, list[i], (s.signed <= i) & (i < s.plain));
+        next = put_number(rt, out, next, list[i], (s.signed <= i) & (i < s.plain));
         i += 1;
     }
     next
 }
 
 // A byte, and nothing where it is 0.
-fn put_letter(out: &mut [u8], at: usize, b: u8) -> usize {
+fn put_letter(rt: &impl Print, out: &mut [u8], at: usize, b: u8) -> usize {
     if b == 0 {
         return at;
     }
-    put_byte(out, at, b)
+    put_byte(rt, out, at, b)
 }
 
-fn put_word(out: &mut [u8], at: usize, word: u64) -> usize {
+fn put_word(rt: &impl Print, out: &mut [u8], at: usize, word: u64) -> usize {
     let mut next = at;
     let mut rest = word;
     let mut i: usize = 0;
     while i < 8 {
         let b = rest / 0x100_0000_0000_0000 % 256;
-        next = put_letter(out, next, b as u8);
+        next = put_letter(rt, out, next, b as u8);
         rest = rest % 0x100_0000_0000_0000 * 256;
         i += 1;
     }
     next
 }
 
-pub fn put_said(out: &mut [u8], at: usize, s: Said) -> usize {
-    let word = put_word(out, at, s.word);
-    let list = put_list(out, word, s);
+pub fn put_said(rt: &impl Print, out: &mut [u8], at: usize, s: Said) -> usize {
+    let word = put_word(rt, out, at, s.word);
+    let list = put_list(rt, out, word, s);
     if s.letter == 0 {
         return list;
     }
-    let space = put_byte(out, list, b' ');
-    put_byte(out, space, s.letter)
+    let space = put_byte(rt, out, list, b' ');
+    put_byte(rt, out, space, s.letter)
 }
 
-pub fn put_both(out: &mut [u8], at: usize, a: Said, b: Said) -> usize {
-    let next = put_said(out, at, a);
-    put_said(out, next, b)
+pub fn put_both(rt: &impl Print, out: &mut [u8], at: usize, a: Said, b: Said) -> usize {
+    let next = put_said(rt, out, at, a);
+    put_said(rt, out, next, b)
 }
 
 // A space, and a digit for each of 256 bytes.
-pub fn put_digits(out: &mut [u8], at: usize, digits: [u8; 256]) -> usize {
-    let mut next = put_byte(out, at, b' ');
+pub fn put_digits(rt: &impl Print, out: &mut [u8], at: usize, digits: [u8; 256]) -> usize {
+    let mut next = put_byte(rt, out, at, b' ');
     let mut i: usize = 0;
     while i < 256 {
-        next = put_byte(out, next, b'0' + digits[i] % 10);
+        next = put_byte(rt, out, next, b'0' + digits[i] % 10);
         i += 1;
     }
     next
 }
 
 // Writes what is gathered.
-pub fn flush(out: &[u8], at: usize) {
+pub fn flush(rt: &impl Print, out: &[u8], at: usize) -> std::io::Result<()> {
     if at <= out.len() {
-        io::write_all(STDOUT_FILENO, &out[..at]);
+        return rt.write_all(&out[..at]);
     }
+    Ok(())
 }
 
 // The bytes of a case whose fields are a length and bytes.

@@ -86,23 +86,38 @@ fn is_blank(r: Row) -> bool {
 }
 
 // The line for the row at a place of a table of which n were written. Those past them are as they were, or it says so.
-fn row_at(r: Row, i: usize, n: usize, trace: &[u8], lines: &mut [u8], line: usize) -> usize {
+fn row_at(
+    rt: &impl Print,
+    r: Row,
+    i: usize,
+    n: usize,
+    trace: &[u8],
+    lines: &mut [u8],
+    line: usize,
+) -> usize {
     if i < n {
-        return out::put_both(lines, line, origin(r), frame(r, trace));
+        return out::put_both(rt, lines, line, origin(r), frame(r, trace));
     }
     if is_blank(r) {
         return line;
     }
-    out::put_text(lines, line, b" and a row past them")
+    out::put_text(rt, lines, line, b" and a row past them")
 }
 
 // The rows of a table of which n were written.
-fn rows_of(rows: [Row; 600], n: usize, trace: &[u8], lines: &mut [u8], line: usize) -> usize {
+fn rows_of(
+    rt: &impl Print,
+    rows: [Row; 600],
+    n: usize,
+    trace: &[u8],
+    lines: &mut [u8],
+    line: usize,
+) -> usize {
     let mut to = line;
     let mut i = 0;
     while i < 600 {
         let r = rows[i];
-        to = row_at(r, i, n, trace, lines, to);
+        to = row_at(rt, r, i, n, trace, lines, to);
         i += 1;
     }
     to
@@ -153,15 +168,16 @@ fn size_of(p: Page) -> usize {
 }
 
 // A page: its rows, and its line.
-fn shown(t: Table, trace: &[u8], lines: &mut [u8], line: usize) -> usize {
+fn shown(rt: &impl Print, t: Table, trace: &[u8], lines: &mut [u8], line: usize) -> usize {
     let p = t.page;
     let list = t.rows;
-    let to = rows_of(list, size_of(p), trace, lines, line);
-    out::put_said(lines, to, edge(p))
+    let to = rows_of(rt, list, size_of(p), trace, lines, line);
+    out::put_said(rt, lines, to, edge(p))
 }
 
 // So many pages at most, each from the place that the last one named.
 fn pages(
+    rt: &impl Print,
     case: &[u8],
     most: usize,
     trace: &[u8],
@@ -175,7 +191,7 @@ fn pages(
     let mut i = 0;
     while i < most {
         let t = cursor::frames_table(kinds, trace, offset, count);
-        to = shown(t, trace, lines, to);
+        to = shown(rt, t, trace, lines, to);
         let p = t.page;
         let Page::More {
             start: _,
@@ -193,6 +209,7 @@ fn pages(
 
 // One page, or pages up to the last one: there are no more of them than bytes, and one.
 pub fn listed(
+    rt: &impl Print,
     letter: u8,
     case: &[u8],
     trace: &[u8],
@@ -201,8 +218,8 @@ pub fn listed(
     line: usize,
 ) -> usize {
     if letter == b'f' {
-        return pages(case, 1, trace, kinds, lines, line);
+        return pages(rt, case, 1, trace, kinds, lines, line);
     }
     let most = std::num::wrapping_add_usize(trace.len(), 1);
-    pages(case, most, trace, kinds, lines, line)
+    pages(rt, case, most, trace, kinds, lines, line)
 }

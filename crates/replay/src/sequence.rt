@@ -97,6 +97,7 @@ fn told(n: Next, trace: &[u8]) -> Said {
 
 // A line for each record from a reader on, so many at most, and how the read ends.
 fn entries(
+    rt: &impl Print,
     start: ZlfReader,
     most: usize,
     trace: &[u8],
@@ -109,7 +110,7 @@ fn entries(
     let mut i = 0;
     while i < most {
         let n = r.next_record(kinds, trace);
-        to = out::put_said(lines, to, told(n, trace));
+        to = out::put_said(rt, lines, to, told(n, trace));
         let Next::Record { header: _, reader } = n else {
             return to;
         };
@@ -137,6 +138,7 @@ fn opening(o: Opening) -> Said {
 
 // From an opening.
 pub fn opened(
+    rt: &impl Print,
     version: u32,
     trace: &[u8],
     kinds: &[u8; 256],
@@ -144,16 +146,23 @@ pub fn opened(
     line: usize,
 ) -> usize {
     let o = ZlfReader::new(trace, version);
-    let next = out::put_said(lines, line, opening(o));
+    let next = out::put_said(rt, lines, line, opening(o));
     let Opening::Opened { version: _, reader } = o else {
         return next;
     };
-    entries(reader, most(trace), trace, kinds, lines, next)
+    entries(rt, reader, most(trace), trace, kinds, lines, next)
 }
 
 // From any place.
-pub fn from(case: &[u8], trace: &[u8], kinds: &[u8; 256], lines: &mut [u8], line: usize) -> usize {
+pub fn from(
+    rt: &impl Print,
+    case: &[u8],
+    trace: &[u8],
+    kinds: &[u8; 256],
+    lines: &mut [u8],
+    line: usize,
+) -> usize {
     let place = layout::u64_at(case, 1) as usize;
     let reader = ZlfReader { place, count: 0 };
-    entries(reader, most(trace), trace, kinds, lines, line)
+    entries(rt, reader, most(trace), trace, kinds, lines, line)
 }

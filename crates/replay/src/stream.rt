@@ -122,44 +122,44 @@ fn fed(s: &[u8]) -> Parser {
 }
 
 // A line for each result but IncompleteFrame: the place of its byte, and the result.
-fn results(s: &[u8], lines: &mut [u8], line: usize) -> usize {
+fn results(rt: &impl Print, s: &[u8], lines: &mut [u8], line: usize) -> usize {
     let mut to = line;
     let mut p = zniffer::fresh();
     let mut i = 0;
     while i < s.len() {
         let t = zniffer::step(p, s[i]);
         p = t.parser;
-        to = noted(i, t.answer, lines, to);
+        to = noted(rt, i, t.answer, lines, to);
         i += 1;
     }
     to
 }
 
-fn noted(i: usize, a: Answer, lines: &mut [u8], line: usize) -> usize {
+fn noted(rt: &impl Print, i: usize, a: Answer, lines: &mut [u8], line: usize) -> usize {
     let r = a.result;
     if zniffer_numbers::goes_on(r) {
         return line;
     }
     let place = out::words(out::LINE, 1, i as u64, 0, 0);
-    out::put_both(lines, line, place, result(a))
+    out::put_both(rt, lines, line, place, result(a))
 }
 
 // Bytes one by one: the parser that is left, and the results on the way.
-pub fn one_by_one(case: &[u8], lines: &mut [u8], line: usize) -> usize {
+pub fn one_by_one(rt: &impl Print, case: &[u8], lines: &mut [u8], line: usize) -> usize {
     let s = out::bytes_of(case);
-    let next = out::put_said(lines, line, left(fed(s)));
-    results(s, lines, next)
+    let next = out::put_said(rt, lines, line, left(fed(s)));
+    results(rt, s, lines, next)
 }
 
 // Bytes at once, to a parser that is lent: the result and the bytes used; then the parser that they leave.
-pub fn at_once(case: &[u8], lines: &mut [u8], line: usize) -> usize {
+pub fn at_once(rt: &impl Print, case: &[u8], lines: &mut [u8], line: usize) -> usize {
     let s = out::bytes_of(case);
     let used = zniffer_lent::parse_all(s);
     let a = used.answer;
     let count = out::words(0, 1, used.used as u64, 0, 0);
-    let next = out::put_both(lines, line, result(a), count);
+    let next = out::put_both(rt, lines, line, result(a), count);
     let ran = zniffer::run(zniffer::fresh(), s);
-    out::put_said(lines, next, left(ran.parser))
+    out::put_said(rt, lines, next, left(ran.parser))
 }
 
 // Where the bytes of the next call stand, and how many they are.
@@ -194,16 +194,16 @@ fn part(s: &[u8], at: usize, len: usize) -> &[u8] {
 }
 
 // The line of a call: the bytes used, the result, and the parser that is left.
-fn called(t: Ran, lines: &mut [u8], line: usize) -> usize {
+fn called(rt: &impl Print, t: Ran, lines: &mut [u8], line: usize) -> usize {
     let u = t.out;
     let a = u.answer;
     let count = out::words(out::LINE, 1, u.used as u64, 0, 0);
-    let next = out::put_both(lines, line, count, result(a));
-    out::put_said(lines, next, left(t.parser))
+    let next = out::put_both(rt, lines, line, count, result(a));
+    out::put_said(rt, lines, next, left(t.parser))
 }
 
 // A line for each call. Each takes a byte, or a piece without any, whose length has two: there are no more calls than bytes.
-fn calls(s: &[u8], lines: &mut [u8], line: usize) -> usize {
+fn calls(rt: &impl Print, s: &[u8], lines: &mut [u8], line: usize) -> usize {
     let mut to = line;
     let mut p = zniffer::fresh();
     let mut at = 0;
@@ -216,7 +216,7 @@ fn calls(s: &[u8], lines: &mut [u8], line: usize) -> usize {
         }
         let next = next_piece(s, at, left);
         let t = zniffer::run(p, part(s, next.at, next.len));
-        to = called(t, lines, to);
+        to = called(rt, t, lines, to);
         p = t.parser;
         let u = t.out;
         at = std::num::wrapping_add_usize(next.at, u.used);
@@ -226,7 +226,7 @@ fn calls(s: &[u8], lines: &mut [u8], line: usize) -> usize {
 }
 
 // Bytes in pieces, to a parser that goes on.
-pub fn in_pieces(case: &[u8], lines: &mut [u8], line: usize) -> usize {
+pub fn in_pieces(rt: &impl Print, case: &[u8], lines: &mut [u8], line: usize) -> usize {
     let s = out::bytes_of(case);
-    calls(s, lines, line)
+    calls(rt, s, lines, line)
 }

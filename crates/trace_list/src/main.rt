@@ -6,7 +6,7 @@ ghost use Rattle.std.specs.Prelude.{◌≡◌, take};
 ghost use Rattle.io.specs.Counts.{IsPrefixLen};
 ghost use Rattle.listing.specs.Listing.{list_text};
 
-use libc::{STDIN_FILENO, STDOUT_FILENO};
+use std::process::ExitCode;
 
 // The list of an input, whole: the buffer holds every list.
 fn listed(input: &[u8], out: &mut [u8; 131072]) -> usize
@@ -16,10 +16,14 @@ fn listed(input: &[u8], out: &mut [u8; 131072]) -> usize
     listing::list(input, out)
 }
 
-fn main() {
+fn run(rt: &(impl Input + Print)) -> std::io::Result<()> {
     let mut input = [0u8; 8193];
-    let n = io::read_full(STDIN_FILENO, &mut input);
+    let n = streams::read_full(&mut rt.reader(), &mut input);
     let mut out = [0u8; 131072];
     let m = listed(&input[..n], &mut out);
-    io::write_all(STDOUT_FILENO, &out[..m]);
+    rt.write_all(&out[..m])
+}
+
+fn main(rt: HostRuntime) -> std::io::Result<ExitCode> {
+    streams::ended(run(&rt))
 }
