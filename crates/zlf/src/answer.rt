@@ -21,65 +21,79 @@ fn refusal_of(o: Opening) -> usize
 }
 
 // Whether a trace opens as a cursor; it says why not.
-fn is_open(path: &[u8], s: &[u8], version: u32) -> bool
+fn is_open(rt: &HostRuntime, path: &[u8], s: &[u8], version: u32) -> bool
     ensures { result ≡ true → (header_size ≤ length s.now) × (length s.now ≤ trace_limit) }
 {
     let number = refusal_of(seam::open(s, version));
     if number == 0 {
         return true;
     }
-    refuse::opening(path, number, s);
+    refuse::opening(rt, path, number, s);
     false
 }
 
 // The seam check from a place.
-fn check(path: &[u8], kinds: &[u8; 256], s: &[u8], ask: Ask, lines: &mut [u8]) -> u8 {
+fn check(
+    rt: &HostRuntime,
+    path: &[u8],
+    kinds: &[u8; 256],
+    s: &[u8],
+    ask: Ask,
+    lines: &mut [u8],
+) -> u8 {
     let mark = seam::seam_check(kinds, s, ask.place);
     if let Seam::PlaceOutside = mark {
-        refuse::refusal(path, 6, facts::of(ask.place as u64, s.len() as u64, 0));
+        refuse::refusal(rt, path, 6, facts::of(ask.place as u64, s.len() as u64, 0));
         return 2;
     }
     let at = list::put_mark(lines, 0, mark, ask.place, s.len(), ask.plain);
-    out::finish(lines, at, list::status_of(mark))
+    out::finish(rt, lines, at, list::status_of(mark))
 }
 
 // The seek to a time.
-fn sought(kinds: &[u8; 256], s: &[u8], ask: Ask, lines: &mut [u8]) -> u8 {
+fn sought(rt: &HostRuntime, kinds: &[u8; 256], s: &[u8], ask: Ask, lines: &mut [u8]) -> u8 {
     let r = seek::seek_time(kinds, s, ask.time);
     if let SeekTime::Found { offset, halvings } = r {
         let at = info::put_found(lines, kinds, s, offset, halvings, ask.plain);
-        return out::finish(lines, at, 0);
+        return out::finish(rt, lines, at, 0);
     }
     let texts = b"S -\nno record at that time or later\n";
     let text = facts::line_of(texts, facts::choice(ask.plain));
     let at = text::put_text(lines, 0, text);
-    out::finish(lines, at, 1)
+    out::finish(rt, lines, at, 1)
 }
 
 // The answer of a trace that opens as a cursor.
-fn answered(path: &[u8], kinds: &[u8; 256], s: &[u8], ask: Ask, lines: &mut [u8]) -> u8
+fn answered(
+    rt: &HostRuntime,
+    path: &[u8],
+    kinds: &[u8; 256],
+    s: &[u8],
+    ask: Ask,
+    lines: &mut [u8],
+) -> u8
     requires { (header_size ≤ length s.now) × (length s.now ≤ trace_limit) }
 {
     if ask.command == args::LIST {
-        return list::list(path, kinds, s, ask, lines);
+        return list::list(rt, path, kinds, s, ask, lines);
     }
     if ask.command == args::CHECK {
-        return check(path, kinds, s, ask, lines);
+        return check(rt, path, kinds, s, ask, lines);
     }
     if ask.command == args::SEEK {
-        return sought(kinds, s, ask, lines);
+        return sought(rt, kinds, s, ask, lines);
     }
-    info::info(kinds, s, ask, lines)
+    info::info(rt, kinds, s, ask, lines)
 }
 
 // The answer, and its status: 0 where it is good, 1 where the trace is broken or nothing is found, 2 on a refusal.
-pub fn answer(path: &[u8], kinds: &[u8; 256], s: &[u8], ask: Ask) -> u8 {
+pub fn answer(rt: &HostRuntime, path: &[u8], kinds: &[u8; 256], s: &[u8], ask: Ask) -> u8 {
     let mut room = io::large_buffer();
     if ask.command == args::RECORDS {
-        return records::records(path, kinds, s, ask, &mut room);
+        return records::records(rt, path, kinds, s, ask, &mut room);
     }
-    if !is_open(path, s, ask.version) {
+    if !is_open(rt, path, s, ask.version) {
         return 2;
     }
-    answered(path, kinds, s, ask, &mut room)
+    answered(rt, path, kinds, s, ask, &mut room)
 }

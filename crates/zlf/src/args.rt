@@ -1,5 +1,9 @@
 // The words of the call: the command, the file, and where each option's value stands among the arguments.
+ghost use Rattle.std.specs.Prelude.{◌≤◌, length};
+
 use crate::{facts, refuse};
+use std::env::FillError;
+use std::rt::Env;
 
 // The commands. Another word, or none, is 0.
 pub const HELP: u8 = 1;
@@ -166,10 +170,11 @@ fn valued(c: Call, i: usize) -> Call {
 }
 
 // An option is at a place.
-fn optioned(c: Call, word: &[u8]) -> Call {
+fn optioned(rt: &HostRuntime, c: Call, word: &[u8]) -> Call {
     let option = option_of(word);
     if !takes(c.command, option) {
         refuse::word(
+            rt,
             word,
             b"' is no option of this command (zlf help COMMAND lists them)\n",
             facts::of(0, 0, 0),
@@ -186,7 +191,7 @@ fn optioned(c: Call, word: &[u8]) -> Call {
 }
 
 // A word that is no option is at a place: the file first, and then what `check` and `seek` take. `speeds` takes none.
-fn named(c: Call, word: &[u8], i: usize) -> Call {
+fn named(rt: &HostRuntime, c: Call, word: &[u8], i: usize) -> Call {
     let mut d = c;
     if (c.file == 0) & (c.command != SPEEDS) {
         d.file = i;
@@ -197,6 +202,7 @@ fn named(c: Call, word: &[u8], i: usize) -> Call {
         return d;
     }
     refuse::word(
+        rt,
         word,
         b"' is one word too many (zlf help COMMAND)\n",
         facts::of(0, 0, 0),
@@ -204,35 +210,42 @@ fn named(c: Call, word: &[u8], i: usize) -> Call {
     refused(c)
 }
 
+// Puts the argument at a place at the start of buf, and gives its length, or 0 where it is missing or too long.
+pub fn argument(rt: &HostRuntime, i: usize, buf: &mut [u8]) -> usize
+    ensures { result ≤ length buf.new }
+{
+    rt.arg(i, buf).unwrap_or(0)
+}
+
 // The call with the argument at a place taken in.
-fn with_argument(c: Call, i: usize) -> Call {
+fn with_argument(rt: &HostRuntime, c: Call, i: usize) -> Call {
     if c.refused {
         return c;
     }
     let mut room = io::buffer();
-    let n = os::arg(i, &mut room);
-    if os::errno() != 0 {
-        refuse::call(b"an argument is over 4,096 bytes long\n");
+    let Ok(n) = rt.arg(i, &mut room) else {
+        refuse::call(rt, b"an argument is over 4,096 bytes long\n");
         return refused(c);
-    }
+    };
     let word = &room[..n];
     if c.taking != 0 {
         return valued(c, i);
     }
     if is_option(word) {
-        return optioned(c, word);
+        return optioned(rt, c, word);
     }
-    named(c, word, i)
+    named(rt, c, word, i)
 }
 
 // The command that the first argument names; it says where there is none.
-fn first() -> u8 {
+fn first(rt: &HostRuntime) -> u8 {
     let mut room = io::buffer();
-    let n = os::arg(1, &mut room);
+    let n = argument(rt, 1, &mut room);
     let word = &room[..n];
     let command = command_of(word);
     if command == 0 {
         refuse::word(
+            rt,
             word,
             b"' is no command (zlf help lists them)\n",
             facts::of(0, 0, 0),
@@ -279,7 +292,7 @@ fn lacking(c: Call) -> usize {
 }
 
 // The call, refused where it lacks something.
-fn completed(c: Call) -> Call {
+fn completed(rt: &HostRuntime, c: Call) -> Call {
     let lack = lacking(c);
     if c.refused | (lack == 0) {
         return c;
@@ -290,18 +303,34 @@ which file? (zlf help COMMAND)
 which time? (zlf seek FILE TIME)
 --from and --at exclude each other
 ";
-    refuse::call(facts::line_of(texts, lack));
+    refuse::call(rt, facts::line_of(texts, lack));
     refused(c)
 }
 
+// Whether there is an argument at a place.
+fn is_there(rt: &HostRuntime, i: usize) -> bool {
+    let mut room = [0u8; 1];
+    !matches!(rt.arg(i, &mut room), Err(FillError::NotPresent))
+}
+
+// How many arguments there are, the program's own name among them.
+fn arguments(rt: &HostRuntime) -> usize {
+    for i in 0..usize::MAX {
+        if !is_there(rt, i) {
+            return i;
+        }
+    }
+    usize::MAX
+}
+
 // Takes in the arguments.
-pub fn given() -> Call {
-    let count = os::arg_count();
-    let mut c = empty(first());
+pub fn given(rt: &HostRuntime) -> Call {
+    let count = arguments(rt);
+    let mut c = empty(first(rt));
     let mut i: usize = 2;
     while i < count {
-        c = with_argument(c, i);
+        c = with_argument(rt, c, i);
         i += 1;
     }
-    completed(c)
+    completed(rt, c)
 }

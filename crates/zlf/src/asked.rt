@@ -32,7 +32,7 @@ struct Number {
 }
 
 // The number of the argument at a place, from the least to the most allowed; the usual one where there is no such argument.
-fn number_at(i: usize, usual: u64, least: u64, most: u64) -> Number {
+fn number_at(rt: &HostRuntime, i: usize, usual: u64, least: u64, most: u64) -> Number {
     if i == 0 {
         return Number {
             n: usual,
@@ -40,7 +40,7 @@ fn number_at(i: usize, usual: u64, least: u64, most: u64) -> Number {
         };
     }
     let mut room = io::buffer();
-    let k = os::arg(i, &mut room);
+    let k = args::argument(rt, i, &mut room);
     let word = &room[..k];
     if let Decimal::Number { n } = written::number_in(word) {
         if (least <= n) & (n <= most) {
@@ -48,6 +48,7 @@ fn number_at(i: usize, usual: u64, least: u64, most: u64) -> Number {
         }
     }
     refuse::word(
+        rt,
         word,
         b"' is no number from % to %\n",
         facts::of(least, most, 0),
@@ -63,7 +64,7 @@ struct Moment {
 }
 
 // The time of the argument at a place; where there is none it is not asked for.
-fn moment_at(i: usize) -> Moment {
+fn moment_at(rt: &HostRuntime, i: usize) -> Moment {
     if i == 0 {
         return Moment {
             millis: 0,
@@ -71,7 +72,7 @@ fn moment_at(i: usize) -> Moment {
         };
     }
     let mut room = io::buffer();
-    let k = os::arg(i, &mut room);
+    let k = args::argument(rt, i, &mut room);
     let word = &room[..k];
     if let Instant::At { millis: instant } = written::parse(word) {
         return Moment {
@@ -80,6 +81,7 @@ fn moment_at(i: usize) -> Moment {
         };
     }
     refuse::word(
+        rt,
         word,
         b"' is no time: give 2024-05-01T12:34:56.789Z, 2024-05-01T12:34:56Z, 2024-05-01, or milliseconds since 1970\n",
         facts::of(0, 0, 0),
@@ -125,12 +127,12 @@ fn narrow(n: u64) -> u32 {
 }
 
 // What a call asks; it says which word cannot be read.
-pub fn asked(c: Call) -> Ask {
-    let place = number_at(place_word(c), 2048, 0, 99_999_999_999_999_999);
-    let time = moment_at(time_word(c));
-    let count = number_at(c.count, 64, 1, MOST);
-    let pages = number_at(c.pages, 1, 1, 99_999_999_999_999_999);
-    let version = number_at(c.version, ZLF_VERSION, 0, 4_294_967_295);
+pub fn asked(rt: &HostRuntime, c: Call) -> Ask {
+    let place = number_at(rt, place_word(c), 2048, 0, 99_999_999_999_999_999);
+    let time = moment_at(rt, time_word(c));
+    let count = number_at(rt, c.count, 64, 1, MOST);
+    let pages = number_at(rt, c.pages, 1, 1, 99_999_999_999_999_999);
+    let version = number_at(rt, c.version, ZLF_VERSION, 0, 4_294_967_295);
     Ask {
         refused: !(place.good & time.good & count.good & pages.good & version.good),
         command: c.command,

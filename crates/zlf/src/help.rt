@@ -1,10 +1,14 @@
 // How `zlf` is called.
-use crate::{args, facts, refuse};
-use libc::STDOUT_FILENO;
+use crate::{args, facts, out, refuse};
 
-fn general() {
-    io::write_all(
-        STDOUT_FILENO,
+// Writes a page.
+fn told(rt: &HostRuntime, page: &[u8]) -> u8 {
+    out::finish(rt, page, page.len(), 0)
+}
+
+fn general(rt: &HostRuntime) -> u8 {
+    told(
+        rt,
         b"zlf reads ZLF traces of up to 1 GiB, and marks each page as unbroken or broken.
 
   zlf list FILE [--from PLACE | --at TIME] [--count N] [--pages N]   pages of frames, each with its edges and its mark
@@ -23,12 +27,12 @@ and each that reads a FILE
   --version N      another version than 104
 It ends with 0 where the answer is good, 1 where the trace is broken or nothing is found, 2 on a refusal or a bad call.
 ",
-    );
+    )
 }
 
-fn on_list() {
-    io::write_all(
-        STDOUT_FILENO,
+fn on_list(rt: &HostRuntime) -> u8 {
+    told(
+        rt,
         b"zlf list FILE [--from PLACE | --at TIME] [--count N] [--pages N]
 
 Pages of frames. The first page starts at the first record boundary from PLACE on (2048), or at the first record at TIME or later.
@@ -43,24 +47,24 @@ With --plain: F record position milliseconds gap R|T region channel speed RSSI b
               P start frames next-place|-
               U place records, or B place break records
 ",
-    );
+    )
 }
 
-fn on_check() {
-    io::write_all(
-        STDOUT_FILENO,
+fn on_check(rt: &HostRuntime) -> u8 {
+    told(
+        rt,
         b"zlf check FILE [PLACE]
 
 Says whether valid records follow one another from PLACE (2048) to the last byte, and how many; or the first place without one.
 
 With --plain: U place records, or B place break records
 ",
-    );
+    )
 }
 
-fn on_info() {
-    io::write_all(
-        STDOUT_FILENO,
+fn on_info(rt: &HostRuntime) -> u8 {
+    told(
+        rt,
         b"zlf info FILE
 
 Size, version, the header's sum as it is stored and as it is computed, the times of the first and the last record, records and frames by
@@ -69,24 +73,24 @@ kind, and what the seam check says from 2048 on. Where the trace is broken, reco
 With --plain: size N / version N / sum STORED COMPUTED / span FIRST LAST or span - / kind K RECORDS FRAMES, for the kinds 1 to 4 /
               U place records, or B place break records
 ",
-    );
+    )
 }
 
-fn on_seek() {
-    io::write_all(
-        STDOUT_FILENO,
+fn on_seek(rt: &HostRuntime) -> u8 {
+    told(
+        rt,
         b"zlf seek FILE TIME
 
 The first record that is not earlier than TIME, found by halving. The status is 1 where there is none.
 
 With --plain: S place milliseconds halvings, or S -
 ",
-    );
+    )
 }
 
-fn on_records() {
-    io::write_all(
-        STDOUT_FILENO,
+fn on_records(rt: &HostRuntime) -> u8 {
+    told(
+        rt,
         b"zlf records FILE [--from PLACE] [--count N]
 
 Records as the sequential reader gives them, from PLACE (2048) on, N of them (64, 1 to 500 at once). It checks the header's sum, takes
@@ -95,12 +99,12 @@ in or out, its session, its end byte (EB), the kind that this stands for, and th
 
 With --plain: D place ticks milliseconds outgoing session end-byte kind payload-place payload-length
 ",
-    );
+    )
 }
 
-fn on_speeds() {
-    io::write_all(
-        STDOUT_FILENO,
+fn on_speeds(rt: &HostRuntime) -> u8 {
+    told(
+        rt,
         b"zlf speeds
 
 The bit rate of a PTI frame by its region, 0 to 31 down, and its channel, 0 to 3 across, to be held beside the wall chart: a PTI record does
@@ -110,51 +114,35 @@ above 15.
 
 With --plain: C region speed speed speed speed, for the channels 0 to 3: 0 is 9.6k, 1 is 40k, 2 is 100k, 3 is Long Range
 ",
-    );
+    )
 }
 
-// The page on a command that an argument names.
-fn page(command: u8) -> bool {
-    if command == args::LIST {
-        on_list();
-        return true;
+// Writes the page on a command that an argument names, and gives the status.
+fn page(rt: &HostRuntime, command: u8) -> Option<u8> {
+    match command {
+        args::LIST => Some(on_list(rt)),
+        args::CHECK => Some(on_check(rt)),
+        args::INFO => Some(on_info(rt)),
+        args::SEEK => Some(on_seek(rt)),
+        args::RECORDS => Some(on_records(rt)),
+        args::SPEEDS => Some(on_speeds(rt)),
+        _ => None,
     }
-    if command == args::CHECK {
-        on_check();
-        return true;
-    }
-    if command == args::INFO {
-        on_info();
-        return true;
-    }
-    if command == args::SEEK {
-        on_seek();
-        return true;
-    }
-    if command == args::RECORDS {
-        on_records();
-        return true;
-    }
-    if command == args::SPEEDS {
-        on_speeds();
-        return true;
-    }
-    false
 }
 
 // The page on the command that the argument at a place names, or on all of them.
-pub fn help(word: usize) -> u8 {
+pub fn help(rt: &HostRuntime, word: usize) -> u8 {
     if word == 0 {
-        general();
-        return 0;
+        return general(rt);
     }
     let mut room = io::buffer();
-    let n = os::arg(word, &mut room);
+    let n = args::argument(rt, word, &mut room);
     let name = &room[..n];
-    if page(args::command_of(name)) {
-        return 0;
+    if let Some(status) = page(rt, args::command_of(name)) {
+        return status;
     }
     refuse::word(
+        rt,
         name,
         b"' is no command with a page of its own (zlf help lists them)\n",
         facts::of(0, 0, 0),

@@ -175,7 +175,7 @@ fn put_counts(lines: &mut [u8], at: usize, t: Totals, plain: bool) -> usize {
 }
 
 // What a trace holds.
-pub fn info(kinds: &[u8; 256], s: &[u8], ask: Ask, lines: &mut [u8]) -> u8
+pub fn info(rt: &HostRuntime, kinds: &[u8; 256], s: &[u8], ask: Ask, lines: &mut [u8]) -> u8
     requires { (header_size ≤ length s.now) × (length s.now ≤ trace_limit) }
 {
     let t = walked(kinds, s);
@@ -185,7 +185,7 @@ pub fn info(kinds: &[u8; 256], s: &[u8], ask: Ask, lines: &mut [u8]) -> u8
     let span = put_span(lines, sums, span::time_span(kinds, s), ask.plain);
     let counts = put_counts(lines, span, t, ask.plain);
     let end = list::put_mark(lines, counts, mark, ZLF_HEADER_SIZE, s.len(), ask.plain);
-    out::finish(lines, end, status_of(s, mark))
+    out::finish(rt, lines, end, status_of(s, mark))
 }
 
 // The status: 1 where the header's sum is wrong too.

@@ -1,5 +1,5 @@
 // The kind table: that of docs/src, or one from a file of 256 bytes.
-use crate::{facts, refuse};
+use crate::{args, facts, files, refuse};
 use layout::{OTHER, PTI, PTI_DIAGNOSTIC, ZNIFFER};
 
 // A kind table, and whether there is one.
@@ -33,19 +33,17 @@ fn none() -> Kinds {
 }
 
 // Reads a table of exactly 256 bytes.
-fn read(path: &[u8]) -> Kinds {
-    let fd = os::open_read(path);
-    if fd < 0 {
-        refuse::system(path);
+fn read(rt: &HostRuntime, path: &[u8]) -> Kinds {
+    let Some(mut given) = files::open(rt, path) else {
         return none();
-    }
+    };
     let mut table = [0u8; 256];
-    let n = io::read_full(fd, &mut table);
+    let n = streams::read_full(&mut given, &mut table);
     let mut more = [0u8; 1];
-    let extra = io::read_full(fd, &mut more);
-    libc::close(fd);
+    let extra = streams::read_full(&mut given, &mut more);
     if (n != 256) | (extra != 0) {
         refuse::file(
+            rt,
             path,
             b": a kind table is a file of exactly 256 bytes that can be read\n",
             facts::of(0, 0, 0),
@@ -56,11 +54,11 @@ fn read(path: &[u8]) -> Kinds {
 }
 
 // The table of the file that the argument at a place names, or the usual one.
-pub fn kinds_at(i: usize) -> Kinds {
+pub fn kinds_at(rt: &HostRuntime, i: usize) -> Kinds {
     if i == 0 {
         return usual();
     }
     let mut room = io::buffer();
-    let n = os::arg(i, &mut room);
-    read(&room[..n])
+    let n = args::argument(rt, i, &mut room);
+    read(rt, &room[..n])
 }

@@ -64,6 +64,7 @@ fn put_row(lines: &mut [u8], at: usize, kinds: &[u8; 256], s: &[u8], r: Row, pla
 
 // The lines of the first n rows of a table.
 fn put_rows(
+    rt: &HostRuntime,
     lines: &mut [u8],
     at: usize,
     kinds: &[u8; 256],
@@ -79,7 +80,7 @@ fn put_rows(
             return to;
         }
         let r = rows[i];
-        to = out::spill(lines, to);
+        to = out::spill(rt, lines, to);
         to = put_row(lines, to, kinds, s, r, plain);
         i += 1;
     }
@@ -179,6 +180,7 @@ struct Walk {
 
 // The lines of a page, its edges and its mark.
 fn put_page(
+    rt: &HostRuntime,
     lines: &mut [u8],
     at: usize,
     kinds: &[u8; 256],
@@ -191,12 +193,12 @@ fn put_page(
     let rows = t.rows;
     let open = facts::put_heading(
         lines,
-        out::spill(lines, at),
+        out::spill(rt, lines, at),
         b"time (UTC)                       gap ms way region   rate  ch  RSSI  beams      record  pos  MPDU\n",
         plain,
     );
-    let end = put_rows(lines, open, kinds, s, rows, e.size, plain);
-    let edge = put_edges(lines, out::spill(lines, end), e, plain);
+    let end = put_rows(rt, lines, open, kinds, s, rows, e.size, plain);
+    let edge = put_edges(lines, out::spill(rt, lines, end), e, plain);
     put_mark(lines, edge, mark, e.start, s.len(), plain)
 }
 
@@ -215,7 +217,15 @@ fn stopped(w: Walk, status: u8) -> Walk
 }
 
 // One page more: its lines, its edges and its mark.
-fn turned(path: &[u8], kinds: &[u8; 256], s: &[u8], ask: Ask, w: Walk, lines: &mut [u8]) -> Walk
+fn turned(
+    rt: &HostRuntime,
+    path: &[u8],
+    kinds: &[u8; 256],
+    s: &[u8],
+    ask: Ask,
+    w: Walk,
+    lines: &mut [u8],
+) -> Walk
     requires { told_seam w.mark ≡ seam_at plausible kinds.now s.now w.from }
     ensures { told_seam result.mark ≡ seam_at plausible kinds.now s.now result.from }
 {
@@ -223,12 +233,12 @@ fn turned(path: &[u8], kinds: &[u8; 256], s: &[u8], ask: Ask, w: Walk, lines: &m
     let p = t.page;
     let e = edges_of(p);
     if !e.good {
-        refuse::refusal(path, refusal_of(p), facts::of(w.offset as u64, 0, 0));
+        refuse::refusal(rt, path, refusal_of(p), facts::of(w.offset as u64, 0, 0));
         return stopped(w, 2);
     }
     let before = w.mark;
     let mark = marks::later(kinds, s, w.from, before, e.start);
-    let at = put_page(lines, w.at, kinds, s, t, e, mark, ask.plain);
+    let at = put_page(rt, lines, w.at, kinds, s, t, e, mark, ask.plain);
     Walk {
         at,
         offset: e.next,
@@ -241,6 +251,7 @@ fn turned(path: &[u8], kinds: &[u8; 256], s: &[u8], ask: Ask, w: Walk, lines: &m
 
 // Pages, each from the place that the last one named.
 fn pages(
+    rt: &HostRuntime,
     path: &[u8],
     kinds: &[u8; 256],
     s: &[u8],
@@ -260,19 +271,26 @@ fn pages(
     };
     let mut i: u64 = 0;
     while i < most {
-        if !w.going {
-            return out::finish(lines, w.at, w.status);
+        if !w.going | out::is_unread(w.at) {
+            return out::finish(rt, lines, w.at, w.status);
         }
-        w = turned(path, kinds, s, ask, w, lines);
+        w = turned(rt, path, kinds, s, ask, w, lines);
         i += 1;
     }
-    out::finish(lines, w.at, w.status)
+    out::finish(rt, lines, w.at, w.status)
 }
 
 // The pages that are asked for, from a place or from a time on.
-pub fn list(path: &[u8], kinds: &[u8; 256], s: &[u8], ask: Ask, lines: &mut [u8]) -> u8 {
+pub fn list(
+    rt: &HostRuntime,
+    path: &[u8],
+    kinds: &[u8; 256],
+    s: &[u8],
+    ask: Ask,
+    lines: &mut [u8],
+) -> u8 {
     if !ask.has_time {
-        return pages(path, kinds, s, ask, ask.place, ask.pages, lines);
+        return pages(rt, path, kinds, s, ask, ask.place, ask.pages, lines);
     }
     let r = seek::seek_time(kinds, s, ask.time);
     if let SeekTime::Found {
@@ -280,9 +298,10 @@ pub fn list(path: &[u8], kinds: &[u8; 256], s: &[u8], ask: Ask, lines: &mut [u8]
         halvings: _,
     } = r
     {
-        return pages(path, kinds, s, ask, offset, ask.pages, lines);
+        return pages(rt, path, kinds, s, ask, offset, ask.pages, lines);
     }
     refuse::file(
+        rt,
         path,
         b": no record at that time or later\n",
         facts::of(0, 0, 0),

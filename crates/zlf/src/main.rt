@@ -1,6 +1,6 @@
 // The command that a reviewer runs on a real trace: pages of frames with their mark, the seam check, what a trace holds, seeks, the
-// sequential reader's records; and the chart of speeds. `zlf help` says how it is called. It writes its status, 0 to 2, as a digit to
-// descriptor 3: the command at the root of the repository ends with it.
+// sequential reader's records; and the chart of speeds. `zlf help` says how it is called. It ends with its status, 0 to 2, or, where nobody
+// reads what it writes any more, with that of a program that was ended for it.
 #![tactic(auto)]
 
 mod answer;
@@ -19,37 +19,34 @@ mod refuse;
 mod speeds;
 
 use args::Call;
-
-// The descriptor that the status goes to.
-const STATUS: i32 = 3;
+use std::process::ExitCode;
 
 // What a call without its own words comes to: the trace that it names is read and asked.
-fn traced(c: Call) -> u8 {
+fn traced(rt: &HostRuntime, c: Call) -> u8 {
     let mut path = io::buffer();
-    let n = os::arg(c.file, &mut path);
+    let n = args::argument(rt, c.file, &mut path);
     let name = &path[..n];
-    let ask = asked::asked(c);
+    let ask = asked::asked(rt, c);
     if ask.refused {
         return 2;
     }
-    files::opened(name, c.kinds, ask)
+    files::opened(rt, name, c.kinds, ask)
 }
 
-fn status() -> u8 {
-    let c = args::given();
+fn status(rt: &HostRuntime) -> u8 {
+    let c = args::given(rt);
     if c.refused {
         return 2;
     }
     if c.command == args::HELP {
-        return help::help(c.file);
+        return help::help(rt, c.file);
     }
     if c.command == args::SPEEDS {
-        return speeds::speeds(c.plain);
+        return speeds::speeds(rt, c.plain);
     }
-    traced(c)
+    traced(rt, c)
 }
 
-fn main() {
-    let digit = [b'0' + status() % 3];
-    io::write_all(STATUS, &digit);
+fn main(rt: HostRuntime) -> ExitCode {
+    ExitCode::from(status(&rt))
 }

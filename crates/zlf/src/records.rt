@@ -24,12 +24,12 @@ fn opening_refusal(o: Opening) -> usize
 }
 
 // Whether a trace opens in sequence; it says why not.
-fn is_open(path: &[u8], s: &[u8], version: u32) -> bool {
+fn is_open(rt: &HostRuntime, path: &[u8], s: &[u8], version: u32) -> bool {
     let number = opening_refusal(ZlfReader::new(s, version));
     if number == 0 {
         return true;
     }
-    refuse::opening(path, number, s);
+    refuse::opening(rt, path, number, s);
     false
 }
 
@@ -79,7 +79,14 @@ fn ended(w: Reading, refusal: usize) -> Reading {
 }
 
 // One record more, and its line.
-fn read_on(kinds: &[u8; 256], s: &[u8], w: Reading, plain: bool, lines: &mut [u8]) -> Reading {
+fn read_on(
+    rt: &HostRuntime,
+    kinds: &[u8; 256],
+    s: &[u8],
+    w: Reading,
+    plain: bool,
+    lines: &mut [u8],
+) -> Reading {
     let r = ZlfReader {
         place: w.place,
         count: 0,
@@ -88,7 +95,7 @@ fn read_on(kinds: &[u8; 256], s: &[u8], w: Reading, plain: bool, lines: &mut [u8
     let Next::Record { header, reader } = n else {
         return ended(w, refusal_of(n));
     };
-    let at = put_record(lines, out::spill(lines, w.at), header, plain);
+    let at = put_record(lines, out::spill(rt, lines, w.at), header, plain);
     Reading {
         at,
         place: reader.place,
@@ -98,17 +105,24 @@ fn read_on(kinds: &[u8; 256], s: &[u8], w: Reading, plain: bool, lines: &mut [u8
 }
 
 // Writes the lines, and gives the status; it says why there is no record more. A plain end is good.
-fn finished(path: &[u8], w: Reading, lines: &[u8]) -> u8 {
+fn finished(rt: &HostRuntime, path: &[u8], w: Reading, lines: &[u8]) -> u8 {
     if w.refusal == 0 {
-        return out::finish(lines, w.at, 0);
+        return out::finish(rt, lines, w.at, 0);
     }
-    refuse::refusal(path, w.refusal, facts::of(w.place as u64, 0, 0));
-    out::finish(lines, w.at, 2)
+    refuse::refusal(rt, path, w.refusal, facts::of(w.place as u64, 0, 0));
+    out::finish(rt, lines, w.at, 2)
 }
 
 // So many records from a place on.
-pub fn records(path: &[u8], kinds: &[u8; 256], s: &[u8], ask: Ask, lines: &mut [u8]) -> u8 {
-    if !is_open(path, s, ask.version) {
+pub fn records(
+    rt: &HostRuntime,
+    path: &[u8],
+    kinds: &[u8; 256],
+    s: &[u8],
+    ask: Ask,
+    lines: &mut [u8],
+) -> u8 {
+    if !is_open(rt, path, s, ask.version) {
         return 2;
     }
     let at = facts::put_heading(
@@ -126,10 +140,10 @@ pub fn records(path: &[u8], kinds: &[u8; 256], s: &[u8], ask: Ask, lines: &mut [
     let mut i: u64 = 0;
     while i < ask.count {
         if !w.going {
-            return finished(path, w, lines);
+            return finished(rt, path, w, lines);
         }
-        w = read_on(kinds, s, w, ask.plain, lines);
+        w = read_on(rt, kinds, s, w, ask.plain, lines);
         i += 1;
     }
-    finished(path, w, lines)
+    finished(rt, path, w, lines)
 }

@@ -1,39 +1,39 @@
 // Refusals and bad calls: one plain line on standard error.
 use crate::facts::Facts;
 use crate::{facts, out};
-use libc::STDERR_FILENO;
+use std::io::{Cursor, Error, Write};
 
 // Writes the first bytes of a line.
-fn written(line: &[u8], n: usize) {
-    io::write_all(STDERR_FILENO, out::first(line, n));
+fn written(rt: &HostRuntime, line: &[u8], n: usize) {
+    let _ = rt.stderr().write_all(out::first(line, n));
 }
 
 // A line: a text, a name, and a text with its facts.
-fn said(before: &[u8], name: &[u8], text: &[u8], f: Facts) {
+fn said(rt: &HostRuntime, before: &[u8], name: &[u8], text: &[u8], f: Facts) {
     let mut line = [0u8; 8192];
     let open = text::put_text(&mut line, 0, before);
     let word = text::put_text(&mut line, open, name);
     let end = facts::put_line(&mut line, word, text, f);
-    written(&line, end)
+    written(rt, &line, end)
 }
 
 // A line on a file.
-pub fn file(path: &[u8], text: &[u8], f: Facts) {
-    said(b"zlf: ", path, text, f)
+pub fn file(rt: &HostRuntime, path: &[u8], text: &[u8], f: Facts) {
+    said(rt, b"zlf: ", path, text, f)
 }
 
 // A line on a word of the call.
-pub fn word(word: &[u8], text: &[u8], f: Facts) {
-    said(b"zlf: '", word, text, f)
+pub fn word(rt: &HostRuntime, word: &[u8], text: &[u8], f: Facts) {
+    said(rt, b"zlf: '", word, text, f)
 }
 
 // A line on the call.
-pub fn call(text: &[u8]) {
-    said(b"zlf: ", b"", text, facts::of(0, 0, 0))
+pub fn call(rt: &HostRuntime, text: &[u8]) {
+    said(rt, b"zlf: ", b"", text, facts::of(0, 0, 0))
 }
 
 // 01's refusals by their numbers, 1 to 10.
-pub fn refusal(path: &[u8], number: usize, f: Facts) {
+pub fn refusal(rt: &HostRuntime, path: &[u8], number: usize, f: Facts) {
     let texts = b"
 : refusal 1: the file has more than 1073741824 bytes, the longest trace that is read
 : refusal 2: a trace has a header of 2048 bytes, and this file has % bytes
@@ -46,7 +46,7 @@ pub fn refusal(path: &[u8], number: usize, f: Facts) {
 : refusal 9: the trace ends in the properties or the length of the record at %
 : refusal 10: the trace ends in the payload or before the end byte of the record at %
 ";
-    file(path, facts::line_of(texts, number), f)
+    file(rt, path, facts::line_of(texts, number), f)
 }
 
 // The fact of a refusal to open a trace: its version, or its size.
@@ -58,18 +58,30 @@ fn opening_fact(s: &[u8], number: usize) -> u64 {
 }
 
 // A trace that does not open.
-pub fn opening(path: &[u8], number: usize, s: &[u8]) {
-    refusal(path, number, facts::of(opening_fact(s, number), 0, 0))
+pub fn opening(rt: &HostRuntime, path: &[u8], number: usize, s: &[u8]) {
+    refusal(rt, path, number, facts::of(opening_fact(s, number), 0, 0))
+}
+
+// The words of an error, without the number that std puts after the system's.
+fn put_words(out: &mut [u8], at: usize, e: Error) -> usize {
+    let mut words = Cursor::new([0u8; 256]);
+    let _ = write!(words, "{e}");
+    let n = words.position() as usize;
+    let all = words.into_inner();
+    let text = str::from_utf8(out::first(&all, n)).unwrap_or("");
+    match text.split_once(" (os error ") {
+        Some((said, _)) => text::put_text(out, at, said.as_bytes()),
+        None => text::put_text(out, at, text.as_bytes()),
+    }
 }
 
 // The system's own words on a file, as `No such file or directory`.
-pub fn system(path: &[u8]) {
-    let mut line = [0u8; 4200];
+pub fn system(rt: &HostRuntime, path: &[u8], e: Error) {
+    let mut line = [0u8; 8192];
     let open = text::put_text(&mut line, 0, b"zlf: ");
-    let end = text::put_text(&mut line, open, path);
-    failed(&line, end)
-}
-
-fn failed(line: &[u8], n: usize) {
-    os::fail(out::first(line, n));
+    let name = text::put_text(&mut line, open, path);
+    let colon = text::put_text(&mut line, name, b": ");
+    let words = put_words(&mut line, colon, e);
+    let end = text::put_byte(&mut line, words, b'\n');
+    written(rt, &line, end)
 }

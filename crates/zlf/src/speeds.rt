@@ -31,7 +31,7 @@ fn put_regions(lines: &mut [u8], at: usize, plain: bool) -> usize
 }
 
 // The chart.
-pub fn speeds(plain: bool) -> u8 {
+pub fn speeds(rt: &HostRuntime, plain: bool) -> u8 {
     let mut room = io::buffer();
     let top = facts::put_heading(
         &mut room,
@@ -46,5 +46,5 @@ pub fn speeds(plain: bool) -> u8 {
         b"9.6k is also the answer where the wall chart is empty, and for every other region and channel\n",
         plain,
     );
-    out::finish(&room, end, 0)
+    out::finish(rt, &room, end, 0)
 }
