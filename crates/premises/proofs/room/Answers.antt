@@ -2,11 +2,7 @@
 use mathlib.Core.Path.{sym}
 use Prim.Native.Nat.{ℕ}
 use lib.ListN.{length-replicate}
-use Rattle.premises.proofs.room.Statement.{statement}
-use Rattle.premises.proofs.room.Tie as tie
+use Rattle.premises.proofs.room.Goals as goal
 
-returns : tie.Need-returns
+pub returns : goal.returns
 returns c = sym (length-replicate {0} {A = ℕ} 3147818 0)
-
-pub room_spec : {M : Type 1} → statement M
-room_spec = tie.close (tie.spec returns)

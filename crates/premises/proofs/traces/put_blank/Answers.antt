@@ -1,0 +1,10 @@
+-- `premises::traces::put_blank` meets its contract: the head, the payload, the end byte. Assumes nothing.
+use borrow.Author.Rules.{rules}
+use Rattle.text.proofs.Puts.{joined}
+use Rattle.premises.proofs.traces.put_blank.Goals as goal
+
+pub returns : goal.returns
+returns c =
+    joined c.put_head-start.ensures
+    (joined c.put_zeros-payload.ensures
+    c.put_byte.ensures)

@@ -1,0 +1,15 @@
+-- `premises::traces::put_distant` meets its contract: part after part. Assumes nothing.
+use Prim.Native.Nat.{ℕ}
+use mathlib.Core.Path.{ap}
+use borrow.Author.Rules.{rules}
+use Rattle.text.proofs.Puts.{joined, renamed}
+use Rattle.plain_examples.specs.Traces.{blank, distant}
+use Rattle.premises.proofs.traces.put_distant.Goals as goal
+
+pub returns : goal.returns
+unfolding distant
+returns c =
+    joined c.put_header-start.ensures
+    (joined c.put_zeros-far.ensures
+    (joined (renamed (ap (λ (t : ℕ). blank t 1) c.second.ensures) c.put_blank-one.ensures)
+    (renamed (ap (λ (t : ℕ). blank t 1) c.second-2.ensures) c.put_blank.ensures)))

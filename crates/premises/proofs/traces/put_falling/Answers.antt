@@ -1,0 +1,14 @@
+-- `premises::traces::put_falling` meets its contract: part after part. Assumes nothing.
+use Prim.Native.Nat.{ℕ}
+use mathlib.Core.Path.{ap}
+use borrow.Author.Rules.{rules}
+use Rattle.text.proofs.Puts.{joined, renamed}
+use Rattle.plain_examples.specs.Traces.{blank, falling}
+use Rattle.premises.proofs.traces.put_falling.Goals as goal
+
+pub returns : goal.returns
+unfolding falling
+returns c =
+    joined c.put_header-start.ensures
+    (joined (renamed (ap (λ (t : ℕ). blank t 40001) c.second.ensures) c.put_blank-one.ensures)
+    (renamed (ap (λ (t : ℕ). blank t 40001) c.second-2.ensures) c.put_blank.ensures))
