@@ -1,5 +1,4 @@
 -- `premises::answers` meets its contract: the first bytes of the room are so many. Assumes nothing.
-use borrow.Author.Rules.{rules}
 use lib.ListN.{length-take}
 use native.Mathlib.Omega.{arith}
 use Rattle.premises.proofs.answers.Goals as goal

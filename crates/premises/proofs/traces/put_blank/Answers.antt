@@ -1,5 +1,4 @@
 -- `premises::traces::put_blank` meets its contract: the head, the payload, the end byte. Assumes nothing.
-use borrow.Author.Rules.{rules}
 use Rattle.text.proofs.Puts.{joined}
 use Rattle.premises.proofs.traces.put_blank.Goals as goal
 

@@ -1,7 +1,6 @@
 -- `premises::traces::put_distant` meets its contract: part after part. Assumes nothing.
 use Prim.Native.Nat.{ℕ}
 use mathlib.Core.Path.{ap}
-use borrow.Author.Rules.{rules}
 use Rattle.text.proofs.Puts.{joined, renamed}
 use Rattle.plain_examples.specs.Traces.{blank, distant}
 use Rattle.premises.proofs.traces.put_distant.Goals as goal

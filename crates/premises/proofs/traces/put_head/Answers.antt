@@ -1,5 +1,4 @@
 -- `premises::traces::put_head` meets its contract: ticks, properties, length. Assumes nothing.
-use borrow.Author.Rules.{rules}
 use Rattle.text.proofs.Puts.{joined}
 use Rattle.premises.proofs.traces.put_head.Goals as goal
 

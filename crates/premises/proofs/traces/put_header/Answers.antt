@@ -1,5 +1,4 @@
 -- `premises::traces::put_header` meets its contract: the version, and zeros. Assumes nothing.
-use borrow.Author.Rules.{rules}
 use Rattle.text.proofs.Puts.{joined}
 use Rattle.plain_examples.specs.Traces.{header}
 use Rattle.premises.proofs.traces.put_header.Goals as goal

@@ -1,11 +1,8 @@
 -- `premises::traces::put_low` meets its contract: at each turn the bytes of the rest are left to be put. Assumes nothing.
-use borrow.Author.Rules.{rules}
 use lib.ListN.{length}
-use mathlib.Core.Path.{◌≡◌, refl}
-use native.Mathlib.Omega.{arith}
-use Rattle.text.proofs.Puts.{Left, all_left, less_left, none_left}
+use mathlib.Core.Path.{◌≡◌}
+use Rattle.text.proofs.Puts.{Left}
 use Rattle.plain_examples.specs.Traces.{low}
-use Rattle.premises.proofs.Turns.{one_low, no_low}
 use Rattle.premises.proofs.traces.put_low.Given as goal
 
 abbrev pub invariant-loop-left : goal.invariant-loop-left

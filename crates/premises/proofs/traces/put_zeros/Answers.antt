@@ -1,10 +1,8 @@
 -- `premises::traces::put_zeros` meets its contract: at each turn the rest of the zeros is left to be put. Assumes nothing.
 use borrow.Author.Rules.{rules}
-use lib.ListN.{length}
-use mathlib.Core.Path.{◌≡◌, refl}
+use mathlib.Core.Path.{refl}
 use native.Mathlib.Omega.{arith}
-use Rattle.text.proofs.Puts.{Left, all_left, less_left, none_left}
-use Rattle.plain_examples.specs.Traces.{zeros}
+use Rattle.text.proofs.Puts.{all_left, less_left, none_left}
 use Rattle.premises.proofs.Turns.{one_zero, no_zeros}
 use Rattle.premises.proofs.traces.put_zeros.Goals as goal
 
@@ -14,7 +12,7 @@ loop-left-init c = (refl, all_left _ _ _)
 pub loop-left-preserved : goal.loop-left-preserved
 loop-left-preserved c =
     let loop = c.loop-left in
-    (search rules, less_left loop.invariant.1 (one_zero loop.false (omega arith)) c.put_byte-next.ensures)
+    (search rules, less_left loop.invariant.1 (one_zero loop.left (omega arith)) c.put_byte-next.ensures)
 
 pub returns : goal.returns
 returns c = none_left c.loop-left.invariant.1 (no_zeros _ (omega arith))
