@@ -1,5 +1,5 @@
 -- Lines for a person: aligned, and by name.
-use Rattle.std.specs.Prelude.{ℕ, ◌-◌, ◌*◌, eqb, ℤ, pos, negsuc, length, replicate, Bool, cond, List, [], ◌∷◌, ◌++◌}
+use Rattle.std.specs.Prelude.{ℕ, ◌-◌, eqb, ℤ, pos, negsuc, length, replicate, Bool, cond, List, [], ◌∷◌, ◌++◌}
 use Rattle.seam.specs.declared.Seam.{Seam}
 use Rattle.seam.specs.declared.Seam.TheVariants.{Unbroken, Broken, TraceTooLong, PlaceOutside}
 use Rattle.reader.specs.declared.ZlfRecord.{ZlfRecord}

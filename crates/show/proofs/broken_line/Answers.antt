@@ -1,0 +1,8 @@
+-- `show::broken_line` meets its contract: one text after the other. Assumes nothing.
+use Rattle.text.proofs.Puts.{joined}
+use Rattle.show.specs.Person.{broken_text}
+use Rattle.show.proofs.broken_line.Goals as goal
+
+pub returns : goal.returns
+unfolding broken_text
+returns c = joined (joined (joined c.put_named-end.ensures c.put_named-from.ensures) c.put_named-to.ensures) c.put_byte.ensures

@@ -1,0 +1,8 @@
+-- `show::count_line` meets its contract: one text after the other. Assumes nothing.
+use Rattle.text.proofs.Puts.{joined}
+use Rattle.show.specs.Person.{count_text}
+use Rattle.show.proofs.count_line.Goals as goal
+
+pub returns : goal.returns
+unfolding count_text
+returns c = joined (joined (joined (joined c.put_text-spaces.ensures c.put_kind-name.ensures) c.put_right-first.ensures) c.put_right-second.ensures) c.put_byte.ensures

@@ -1,0 +1,6 @@
+-- `show::frame_line` meets its contract: one text after the other. Assumes nothing.
+use Rattle.text.proofs.Puts.{joined}
+use Rattle.show.proofs.frame_line.Goals as goal
+
+pub returns : goal.returns
+returns c = joined (joined c.put_heard-heard.ensures c.put_numbers-numbers.ensures) c.put_mpdu.ensures
