@@ -52,6 +52,7 @@ fn row(region: u8) -> [u8; 4]
 }
 
 // Bit rate implied by a channel and a region: a cell of the grid, and 0 off it.
+#[tactic(auto, using(crate::proofs::Chart::cell, crate::proofs::Chart::beside))]
 pub fn speed_for(channel: u8, region: u8) -> u8
     ensures { result ≡ speed_for channel region }
 {
