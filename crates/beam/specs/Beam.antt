@@ -1,5 +1,5 @@
--- How often a wake_up beam repeats.
-use Rattle.std.specs.Prelude.{ℕ, zero, suc, ◌+◌, ◌-◌, min, eqb, length, get_or, take, drop, Bool, true, false, ◌&&◌, cond, List, [], ◌∷◌}
+-- How often a wake-up beam repeats.
+use Rattle.std.specs.Prelude.{ℕ, zero, suc, ◌+◌, ◌-◌, min, eqb, get_or, take, drop, Bool, true, false, ◌&&◌, cond, List, [], ◌∷◌}
 
 -- whether the whole pattern fits and matches
 unfoldable pub starts : List ℕ → List ℕ → Bool

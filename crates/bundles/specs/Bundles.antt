@@ -13,7 +13,7 @@ unfoldable pub body_in : List ℕ → List (List ℕ)
 body_in [] = []
 body_in (skipped ∷ body) = body ∷ []
 
--- L is a byte, so that 254 bytes at most stand there, and a body has 253 at most (`Made-bytes` of proofs/Made.antt)
+-- L is a byte, so that 254 bytes at most stand there, and a body has 253 at most (`made_bytes` of proofs/Made.antt)
 abbrev pub Bytes : List ℕ → Type 0
 Bytes inner = (length inner < 255) × ((x : ℕ) → Memᴰ x inner → x < 256)
 

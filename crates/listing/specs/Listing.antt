@@ -1,4 +1,4 @@
--- The whole output of the program trace_list for an input.
+-- The whole output of the program trace-list for an input.
 use Rattle.std.specs.Prelude.{ℕ, zero, suc, leb, eqb, length, take, drop, cond, ◌&&◌, ◌≡◌}
 use mathlib.Core.List.{List, [], ◌++◌, flat_map}
 use Rattle.std.proofs.Math.Option.{none}

@@ -1,4 +1,4 @@
--- What `trace_list` relies on: no page of an input is refused with 7, and 131,072 bytes hold every list. Assumes nothing.
+-- What `trace-list` relies on: no page of an input is refused with 7, and 131,072 bytes hold every list. Assumes nothing.
 use Prim.Native.Nat.{ℕ, ◌+◌, ◌-◌, ◌*◌, ◌≤◌, ◌<◌}
 use lib.Dec.{ltb, eqb, leb}
 use lib.ListN.{length, get_or, take, drop, length-append, length-drop}
@@ -29,7 +29,7 @@ use Rattle.listing.specs.Listing.{page_of, pages_text, seam_line, seam_found, se
 use Rattle.listing_laws.proofs.Texts.{most, number, line_most}
 use Rattle.listing_laws.proofs.Pages.{page_fits, search_refusal, refusal_most, pages_most}
 
--- how many bytes `trace_list` has for its text
+-- how many bytes `trace-list` has for its text
 abbrev pub room : ℕ
 room = 131072
 

@@ -17,7 +17,7 @@ or_later t target at later = cond (lt_z (t.millis at) target) later (some at)
 unfoldable pub plain_from : Trace → ℤ → ℕ → Option ℕ
 plain_from t target at = walk t.next (λ (end : ℕ). none) (or_later t target) t.size at
 
--- the same, said of the answer (`found_first` and `None-found` of proofs/Meaning.antt). One of the records from a place on begins here: so
+-- the same, said of the answer (`found_first` and `none_found` of proofs/Meaning.antt). One of the records from a place on begins here: so
 -- many of them, each where the last ended, lead from that place to this one, and a valid record stands here
 pub record Begins (t : Trace) (first at : ℕ) : Type 0 where
   pub before : ℕ

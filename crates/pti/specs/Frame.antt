@@ -1,4 +1,4 @@
--- The Z_Wave frame in the body of a bracket record: header part, radio part, tail.
+-- The Z-Wave frame in the body of a bracket record: header part, radio part, tail.
 use Rattle.std.specs.Prelude.{ℕ, ◌+◌, ◌-◌, ◌%◌, eqb, ltb, leb, ℤ, pos, length, get_or, take, drop, Bool, true, false, ◌&&◌, ◌||◌, cond, List}
 use Rattle.std.specs.Int.{w8}
 use Rattle.std.proofs.Common.{to_z}

@@ -7,7 +7,6 @@ use mathlib.Core.Bool.{Bool, true, false, cond, true≢false}
 use mathlib.Core.List.{List}
 use mathlib.Core.Option.{none, some}
 use mathlib.Core.Path.{◌≡◌, refl, sym, ap, ◌∙◌}
-use native.Mathlib.Omega.{arith}
 use Rattle.layout.specs.Layout.{trace_limit}
 use Rattle.record.specs.Record.{Limits, valid, next_at, RecordTold, no_record, fields_at, record_at, told_record}
 use Rattle.record.specs.declared.Record.{Record}

@@ -5,7 +5,6 @@ use mathlib.Core.Path.{◌≡◌, refl}
 use Rattle.choice.proofs.Only.{only, number}
 use Rattle.record.specs.Record.{RecordTold, told_record}
 use Rattle.record.specs.declared.Record.{Record}
-use Rattle.record.specs.declared.Record.TheVariants as Record
 
 back_record : RecordTold → Record
 back_record t =

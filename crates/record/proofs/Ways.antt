@@ -4,12 +4,12 @@ use borrow.Author.Tests.{leb-true, le-leb, lt-leb, lt-ltb, le-ltb, eq-eqb, ne_eq
 use lib.Dec.{leb, eqb}
 use lib.IntN.{pos}
 use lib.ListN.{length, get_or}
-use mathlib.Core.Bool.{Bool, true, false, ◌&&◌, false≢true}
+use mathlib.Core.Bool.{Bool, true, false, false≢true}
 use mathlib.Core.List.{List, [], ◌∷◌}
 use mathlib.Core.Path.{◌≡◌, refl, sym, ap, ◌∙◌}
 use native.Mathlib.Decide.{dec_le}
 use native.Mathlib.Omega.{arith}
-use Rattle.choice.proofs.Choice.{left_true, right_true}
+use Rattle.choice.proofs.Choice.{left_true}
 use Rattle.layout.specs.Layout.{kind_of, trace_limit}
 use Rattle.ticks.specs.Ticks.{cleared, unix_millis, epoch, per_millisecond}
 use Rattle.record.specs.Record.{Limits, plausible, ticks_in, length_in, opens_right, kind_known, conditions, all_hold, valid, no_record, fields_at, record_at}

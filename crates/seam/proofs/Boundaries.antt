@@ -1,16 +1,15 @@
 -- In an unbroken stretch every record begins at a boundary, so that a search from its place finds it at once. Over any record test. Assumes nothing.
-use Prim.Native.Nat.{ℕ, zero, suc, ◌+◌, ◌-◌, ◌≤◌, ◌<◌, min}
+use Prim.Native.Nat.{ℕ, suc, ◌+◌, ◌-◌, ◌≤◌, ◌<◌, min}
 use borrow.Author.Tests.{eq-eqb}
-use lib.Dec.{eqb}
 use mathlib.Core.Bool.{Bool, true, false, ◌||◌}
-use mathlib.Core.Option.{Option, none, some}
-use mathlib.Core.Path.{◌≡◌, refl, sym, ap, ◌∙◌}
+use mathlib.Core.Option.{Option}
+use mathlib.Core.Path.{◌≡◌, refl}
 use native.Mathlib.Omega.{arith}
 use Rattle.layout.specs.Layout.{header_size, trace_limit}
 use Rattle.record.proofs.Steps.{Steps, past_end}
 use Rattle.resync.proofs.Searched.{is_there, no_offset}
 use Rattle.resync.specs.Boundary.{boundary}
-use Rattle.resync.specs.Search.{First, start_of, found, nothing, searched, default_window}
+use Rattle.resync.specs.Search.{found, nothing, searched, default_window}
 use Rattle.seam.specs.Seam.{Unbroken, ends, more}
 
 or-true : (b : Bool) → (b || true) ≡ true

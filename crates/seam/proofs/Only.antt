@@ -7,9 +7,7 @@ use Rattle.choice.proofs.Only.{only}
 use Rattle.seam.specs.Opening.{OpeningTold, told_opening}
 use Rattle.seam.specs.Seam.{SeamTold, told_seam}
 use Rattle.seam.specs.declared.Opening.{Opening}
-use Rattle.seam.specs.declared.Opening.TheVariants as Opening
 use Rattle.seam.specs.declared.Seam.{Seam}
-use Rattle.seam.specs.declared.Seam.TheVariants as Seam
 
 back_opening : OpeningTold → Opening
 back_opening t =

@@ -1,14 +1,14 @@
 -- What the seam check says: `unbroken k` exactly where k valid records follow one another from the place to the last byte, and `broken` exactly
 -- with the first offset without a valid record and the number of records before it. Over any record test. Assumes nothing.
-use Prim.Native.Nat.{ℕ, zero, suc, ◌+◌, ◌≤◌, ◌<◌}
+use Prim.Native.Nat.{ℕ, zero, suc, ◌≤◌, ◌<◌}
 use borrow.Author.Tests.{eqb-true, eqb-false, le-ltb, eq-eqb, ne_eqb}
-use lib.Dec.{ltb, eqb}
-use mathlib.Core.Bool.{Bool, true, false, cond, ◌||◌, true≢false, false≢true}
+use lib.Dec.{eqb}
+use mathlib.Core.Bool.{Bool, true, false, cond, true≢false, false≢true}
 use lib.ListN.{length}
 use mathlib.Core.List.{List}
 use mathlib.Core.Logic.{◌↔◌}
 use mathlib.Core.Option.{Option, none, some}
-use mathlib.Core.Path.{◌≡◌, refl, sym, ap, subst, ◌∙◌}
+use mathlib.Core.Path.{◌≡◌, refl, sym, ap, ◌∙◌}
 use native.Mathlib.Numerals.{add-one}
 use native.Mathlib.Omega.{arith}
 use Rattle.layout.specs.Layout.{header_size, trace_limit}
@@ -16,7 +16,7 @@ use Rattle.record.proofs.Steps.{Steps, past_end}
 use Rattle.record.proofs.Valid.{record_steps}
 use Rattle.record.specs.Record.{Limits, next_at}
 use Rattle.resync.specs.Boundary.{onward, after}
-use Rattle.seam.specs.Seam.{Unbroken, ends, more, Broken, Reached, reached, one_more, reach, SeamTold, unbroken_with, broken_at, seam_of, seam_from, seam_at}
+use Rattle.seam.specs.Seam.{Unbroken, ends, more, Broken, Reached, reached, reach, SeamTold, unbroken_with, broken_at, seam_of, seam_from, seam_at}
 use Rattle.seam.proofs.Walks.{by_records}
 use Rattle.seam.proofs.Seams.{reach_stops, reach_on}
 

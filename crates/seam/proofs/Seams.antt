@@ -1,15 +1,14 @@
 -- The seam check: what the code has at each way out, and that its answer says what the plain statements say. Assumes nothing.
-use Prim.Native.Nat.{ℕ, zero, suc, ◌+◌, ◌≤◌, ◌<◌}
+use Prim.Native.Nat.{ℕ, ◌+◌, ◌≤◌, ◌<◌}
 use borrow.Author.Tests.{ltb-false, lt-ltb, le-ltb, eq-eqb, ne_eqb}
-use lib.Dec.{ltb, eqb}
-use mathlib.Core.Bool.{Bool, true, false, ◌||◌, cond, true≢false}
+use lib.Dec.{ltb}
+use mathlib.Core.Bool.{Bool, true, false, ◌||◌, true≢false}
 use mathlib.Core.Option.{Option, none, some}
-use mathlib.Core.Path.{◌≡◌, refl, sym, ap, ◌∙◌}
+use mathlib.Core.Path.{◌≡◌, sym, ap, ◌∙◌}
 use native.Mathlib.Omega.{arith}
 use Rattle.layout.specs.Layout.{header_size, trace_limit}
 use Rattle.record.proofs.Steps.{Steps, past_end}
-use Rattle.seam.specs.Walk.{walk}
-use Rattle.seam.specs.Seam.{Reached, reached, one_more, reach, SeamTold, unbroken_with, broken_at, seam_refused, seam_of, seam_from}
+use Rattle.seam.specs.Seam.{Reached, reached, one_more, reach, unbroken_with, broken_at, seam_refused, seam_of, seam_from}
 use Rattle.seam.proofs.Walks.{stopped, goes_on_lem}
 
 module _ (next : ℕ → Option ℕ) (n : ℕ) (steps : Steps next n) where

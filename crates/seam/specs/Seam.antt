@@ -1,5 +1,5 @@
 -- The seam check, over a record test: a function that gives at a place the place after its valid record, or none.
-use Rattle.std.specs.Prelude.{ℕ, zero, suc, ◌+◌, ◌<◌, ltb, eqb, length, Bool, true, false, cond, ◌||◌, List, ◌≡◌}
+use Rattle.std.specs.Prelude.{ℕ, suc, ◌+◌, ◌<◌, ltb, eqb, length, Bool, true, false, cond, ◌||◌, List, ◌≡◌}
 use Rattle.std.proofs.Math.Option.{Option, none, some}
 use Rattle.layout.specs.Layout.{header_size, trace_limit}
 use Rattle.seam.specs.Walk.{walk}

@@ -5,7 +5,6 @@ use lib.ListN.{length}
 use mathlib.Core.Bool.{true, false}
 use mathlib.Core.List.{List}
 use mathlib.Core.Path.{◌≡◌, refl, sym, ap, ◌∙◌}
-use native.Mathlib.Omega.{arith}
 use Rattle.ticks.specs.Ticks.{unix_millis}
 use Rattle.layout.specs.Fields.{ticks_at}
 use Rattle.record.proofs.Answers.{is_one, next_one}
@@ -15,7 +14,6 @@ use Rattle.resync.specs.Search.{found, nothing, search_from, default_window}
 use Rattle.span.proofs.Meets.{Meets, meets}
 use Rattle.span.specs.Met.{MetTold, end_of, met_of, meet, trace_of, not_met, told_met}
 use Rattle.span.specs.declared.Met.{Met}
-use Rattle.span.specs.declared.Met.TheVariants as Met
 
 -- an answer that is not the first case tells of no record, with a number
 pub not_at : (r : Met) → ((o e m : ℕ) → r ≡ Met.At o e m → ⊥) → (k : ℕ) × (told_met r ≡ not_met k)

@@ -6,11 +6,9 @@ use Rattle.choice.proofs.Only.{only, number}
 use Rattle.span.specs.Met.{MetTold, told_met, FirstTold, told_first}
 use Rattle.span.specs.Span.{SpanTold, told_span}
 use Rattle.span.specs.declared.Met.{Met}
-use Rattle.span.specs.declared.Met.TheVariants as Met
 use Rattle.span.specs.declared.FirstRecord.{FirstRecord}
 use Rattle.span.specs.declared.FirstRecord.TheVariants as First
 use Rattle.span.specs.declared.Span.{Span}
-use Rattle.span.specs.declared.Span.TheVariants as Span
 
 back_met : MetTold → Met
 back_met t =

@@ -7,7 +7,6 @@ use Rattle.layout.specs.Fields.{ticks_at}
 use Rattle.record.specs.Record.{Limits, plausible, next_at}
 use Rattle.resync.specs.Search.{SearchTold, searched, default_window}
 use Rattle.span.specs.declared.Met.{Met}
-use Rattle.span.specs.declared.Met.TheVariants as Met
 use Rattle.span.specs.declared.FirstRecord.{FirstRecord}
 use Rattle.span.specs.declared.FirstRecord.TheVariants as First
 

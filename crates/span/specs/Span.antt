@@ -4,7 +4,6 @@ use Rattle.std.proofs.Math.Option.{Option, none, some}
 use Rattle.layout.specs.Layout.{trace_limit}
 use Rattle.span.specs.Met.{Trace, MetTold, meet, first_met}
 use Rattle.span.specs.declared.Span.{Span}
-use Rattle.span.specs.declared.Span.TheVariants as Span
 
 -- 01: "the last record met by walking, a search for each": its time, or the given one where none is met. The steps are counted, and
 -- there are never more records than bytes: as many steps as there are bytes from the place on are enough, and more change nothing

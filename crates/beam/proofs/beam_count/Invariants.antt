@@ -1,12 +1,10 @@
 -- `beam::beam_count` meets its contract. The invariant: what is counted so far and the repeats from the offset on come to the whole count. The
 -- measure is what is left of the data. Assumes nothing.
 use Prim.Native.Nat.{◌≤◌, ◌-◌}
-use native.Mathlib.Omega.{arith}
 use lib.ListN.{length}
-use mathlib.Core.Path.{◌≡◌, sym, ◌∙◌}
-use borrow.Author.Rules.{rules}
+use mathlib.Core.Path.{◌≡◌}
 use Rattle.beam.specs.Beam.{beam_count}
-use Rattle.beam.proofs.Beats.{total, empty_pattern, begun, cut, one_hit, one_miss, ended}
+use Rattle.beam.proofs.Beats.{total}
 use Rattle.beam.proofs.beam_count.Given as goal
 
 abbrev pub invariant-loop-offset : goal.invariant-loop-offset

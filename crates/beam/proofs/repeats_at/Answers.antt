@@ -1,11 +1,8 @@
 -- `beam::repeats_at` meets its contract. The invariant: whether the pattern matches is whether what is left of it does. Assumes nothing.
-use Prim.Native.Nat.{◌≤◌, ◌-◌}
 use native.Mathlib.Omega.{arith}
-use lib.ListN.{length, take, drop}
-use mathlib.Core.Path.{◌≡◌, refl, sym, ◌∙◌}
+use mathlib.Core.Path.{sym, ◌∙◌}
 use borrow.Author.Rules.{rules}
-use Rattle.beam.specs.Beam.{starts_marked}
-use Rattle.beam.proofs.Starts.{starts_from, differs, agrees, all, unmarked, marked}
+use Rattle.beam.proofs.Starts.{differs, agrees, all, unmarked, marked}
 use Rattle.beam.proofs.repeats_at.Goals as goal
 
 pub returns-then-data-offset-ne-BEAM_MARKER : goal.returns-then-data-offset-ne-BEAM_MARKER

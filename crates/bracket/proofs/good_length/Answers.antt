@@ -1,6 +1,5 @@
 -- `bracket::good_length` meets its contract: at each `return` the tests that led there say which case holds. Assumes nothing.
 use native.Mathlib.Omega.{arith}
-use borrow.Author.Rules.{rules}
 use Rattle.bracket.proofs.Steps.{overlong, unbracketed, whole}
 use Rattle.bracket.proofs.good_length.Goals as goal
 

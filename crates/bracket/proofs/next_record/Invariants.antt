@@ -1,12 +1,9 @@
 -- `bracket::next_record` meets its contract. The invariant: the next body from the place reached is the next body from the place given. The
 -- measure is what is left of the payload. Assumes nothing.
 use Prim.Native.Nat.{◌-◌}
-use native.Mathlib.Omega.{arith}
 use lib.ListN.{length}
-use mathlib.Core.Path.{◌≡◌, refl, sym, ◌∙◌}
-use borrow.Author.Rules.{rules}
+use mathlib.Core.Path.{◌≡◌}
 use Rattle.bracket.specs.Bracket.{next_record}
-use Rattle.bracket.proofs.Steps.{none, passed, stopped, found, onward}
 use Rattle.bracket.proofs.next_record.Given as goal
 
 abbrev pub invariant-loop-from : goal.invariant-loop-from

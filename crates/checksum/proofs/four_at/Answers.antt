@@ -1,7 +1,6 @@
 -- `checksum::four_at` meets its contract. Assumes nothing.
 use Prim.Native.Nat.{◌+◌}
 use native.Mathlib.Omega.{arith}
-use borrow.Author.Rules.{rules}
 use Rattle.checksum.proofs.Octets.{four_joined}
 use Rattle.checksum.proofs.four_at.Goals as goal
 

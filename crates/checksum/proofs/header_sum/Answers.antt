@@ -1,11 +1,7 @@
 -- `checksum::header_sum` meets its contract. The invariant of both loops: the bytes from `i` on lead from the sum so far to the sum of all.
 -- Assumes nothing.
-use Prim.Native.Nat.{◌≤◌, ◌-◌}
-use lib.ListN.{length, drop}
-use mathlib.Core.Path.{◌≡◌, refl, sym, ◌∙◌}
+use mathlib.Core.Path.{refl, sym, ◌∙◌}
 use borrow.Author.Rules.{rules}
-use Rattle.checksum.specs.Sum.{sum_from, sum_of}
-use Rattle.checksum.specs.Division.{sum_in}
 use Rattle.checksum.proofs.SumSteps.{bytes_more, byte_more, bytes_done}
 use Rattle.checksum.proofs.SumRule.{start_sum}
 use Rattle.checksum.proofs.header_sum.Goals as goal

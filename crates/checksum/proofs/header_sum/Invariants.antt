@@ -2,12 +2,9 @@
 -- Assumes nothing.
 use Prim.Native.Nat.{◌≤◌, ◌-◌}
 use lib.ListN.{length, drop}
-use mathlib.Core.Path.{◌≡◌, refl, sym, ◌∙◌}
-use borrow.Author.Rules.{rules}
+use mathlib.Core.Path.{◌≡◌}
 use Rattle.checksum.specs.Sum.{sum_from, sum_of}
 use Rattle.checksum.specs.Division.{sum_in}
-use Rattle.checksum.proofs.SumSteps.{bytes_more, byte_more, bytes_done}
-use Rattle.checksum.proofs.SumRule.{start_sum}
 use Rattle.checksum.proofs.header_sum.Given as goal
 
 abbrev pub invariant-loop-i : goal.invariant-loop-i

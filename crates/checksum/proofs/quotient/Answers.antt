@@ -1,6 +1,5 @@
 -- `checksum::quotient` meets its contract. Assumes nothing.
 use mathlib.Core.Path.{◌∙◌}
-use borrow.Author.Rules.{rules}
 use Rattle.checksum.proofs.SumRule.{divided}
 use Rattle.checksum.proofs.quotient.Goals as goal
 

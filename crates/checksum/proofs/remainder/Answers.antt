@@ -1,6 +1,5 @@
 -- `checksum::remainder` meets its contract. Assumes nothing.
 use mathlib.Core.Path.{ap, ◌∙◌}
-use borrow.Author.Rules.{rules}
 use Rattle.checksum.specs.Division.{sum_in}
 use Rattle.checksum.proofs.SumRule.{remains}
 use Rattle.checksum.proofs.remainder.Goals as goal

@@ -2,7 +2,6 @@
 use Prim.Native.Nat.{◌/◌, ◌^◌}
 use lib.Bits.{xor_lt}
 use native.Mathlib.Omega.{arith}
-use borrow.Author.Rules.{rules}
 use Rattle.checksum.proofs.SumRule.{whole_byte}
 use Rattle.checksum.proofs.sum_byte.Goals as goal
 

@@ -1,7 +1,6 @@
 -- `checksum::sum_word` meets its contract: the closed rule is eight bytes of the rule. Assumes nothing.
 use Prim.Native.Nat.{ℕ}
 use mathlib.Core.Path.{ap, ◌∙◌}
-use borrow.Author.Rules.{rules}
 use Rattle.checksum.specs.Sum.{sum_from}
 use Rattle.checksum.specs.Division.{octets, sum_in}
 use Rattle.checksum.proofs.SumRule.{whole_word}

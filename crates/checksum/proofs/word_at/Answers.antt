@@ -1,6 +1,5 @@
 -- `checksum::word_at` meets its contract. Assumes nothing.
 use native.Mathlib.Omega.{arith}
-use borrow.Author.Rules.{rules}
 use Rattle.checksum.proofs.Octets.{eight_joined}
 use Rattle.checksum.proofs.word_at.Goals as goal
 

@@ -1,5 +1,4 @@
 -- `layout::kind_of` meets its contract: the entry, or 0 for one above 4. Assumes nothing.
-use borrow.Author.Rules.{rules}
 use borrow.Author.Tests.{le-leb, lt-leb}
 use Rattle.layout.proofs.kind_of.Goals as goal
 

@@ -1,5 +1,4 @@
 -- `layout::u16_at` meets its contract, by the laws of Numbers. Assumes nothing.
-use borrow.Author.Rules.{rules}
 use mathlib.Core.Path.{sym}
 use native.Mathlib.Omega.{arith}
 use Rattle.layout.proofs.Numbers.{past, two}

@@ -1,5 +1,4 @@
 -- `layout::u8_at` meets its contract: past the end `get_or` gives 0. Assumes nothing.
-use borrow.Author.Rules.{rules}
 use lib.ListN.{get_or-eq_default}
 use mathlib.Core.Path.{sym}
 use Rattle.layout.proofs.u8_at.Goals as goal

@@ -1,5 +1,4 @@
 -- `reader::negative_length` meets its contract, by the laws of Signed. Assumes nothing.
-use borrow.Author.Rules.{rules}
 use Rattle.reader.proofs.Signed.{negative_fits, negative_is}
 use Rattle.reader.proofs.negative_length.Goals as goal
 

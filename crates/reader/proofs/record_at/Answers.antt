@@ -1,7 +1,6 @@
 -- `reader::record_at` meets its contract, by what its callees ensure. Assumes nothing.
 use Prim.Native.Nat.{◌+◌}
 use native.Mathlib.Omega.{arith}
-use borrow.Author.Rules.{rules}
 use Rattle.reader.proofs.Made.{made}
 use Rattle.reader.proofs.record_at.Goals as goal
 

@@ -1,7 +1,6 @@
 -- `reader::sum_right` meets its contract, by what its callees ensure. Assumes nothing.
 use lib.ListN.{length-take}
 use native.Mathlib.Omega.{arith}
-use borrow.Author.Rules.{rules}
 use Rattle.reader.proofs.sum_right.Goals as goal
 
 pub slice_bounds-header_sum-end : goal.slice_bounds-header_sum-end

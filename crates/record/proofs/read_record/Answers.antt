@@ -1,5 +1,4 @@
 -- `record::read_record` meets its contract: a trace over the limit is refused first. Assumes nothing.
-use borrow.Author.Rules.{rules}
 use borrow.Author.Tests.{lt-ltb}
 use Rattle.record.specs.Record.{record_at}
 use Rattle.record.proofs.read_record.Goals as goal

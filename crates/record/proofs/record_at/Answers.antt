@@ -1,6 +1,4 @@
 -- `record::record_at` meets its contract: each way out is a condition that does not hold, and the last one all six. Assumes nothing.
-use borrow.Author.Rules.{rules}
-use borrow.Author.Tests.{not-true, not-false}
 use Prim.Native.Nat.{◌+◌}
 use mathlib.Core.Path.{sym, ap, ◌∙◌}
 use native.Mathlib.Omega.{arith}

@@ -1,14 +1,11 @@
 -- `resync::begins_run` meets its contract. The loop's invariant: `counter` valid records lie from `offset` to `at`. Assumes nothing.
-use Prim.Native.Nat.{◌≤◌, ◌-◌}
 use borrow.Author.Rules.{rules}
-use mathlib.Core.Option.{some}
-use mathlib.Core.Path.{◌≡◌, refl, sym, ap, ◌∙◌}
+use mathlib.Core.Path.{refl, sym, ap, ◌∙◌}
 use native.Mathlib.Omega.{arith}
 use Rattle.record.proofs.Answers.{not_valid, next_none, next_one}
 use Rattle.resync.proofs.Chain.{no_record, goes_on_lem, three, breaks_off, ends_run}
 use Rattle.record.proofs.Valid.{record_steps}
-use Rattle.resync.specs.Boundary.{after}
-use Rattle.record.specs.Record.{plausible, next_at, told_record}
+use Rattle.record.specs.Record.{told_record}
 use Rattle.record.specs.declared.Record.TheVariants.{Valid}
 use Rattle.resync.proofs.begins_run.Goals as goal
 

@@ -1,9 +1,7 @@
 -- `resync::block_candidate` meets its contract. The loop's invariant: none of the offsets passed begins a valid record. Assumes nothing.
-use Prim.Native.Nat.{◌-◌}
 use borrow.Author.Rules.{rules}
 use native.Mathlib.Omega.{arith}
 use Rattle.resync.proofs.First.{both_ranges}
-use Rattle.resync.specs.Block.{passed_to}
 use Rattle.resync.proofs.block_candidate.Goals as goal
 
 pub loop-at-init : goal.loop-at-init

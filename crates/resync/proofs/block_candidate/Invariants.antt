@@ -1,8 +1,5 @@
 -- `resync::block_candidate` meets its contract. The loop's invariant: none of the offsets passed begins a valid record. Assumes nothing.
 use Prim.Native.Nat.{◌-◌}
-use borrow.Author.Rules.{rules}
-use native.Mathlib.Omega.{arith}
-use Rattle.resync.proofs.First.{both_ranges}
 use Rattle.resync.specs.Block.{passed_to}
 use Rattle.resync.proofs.block_candidate.Given as goal
 

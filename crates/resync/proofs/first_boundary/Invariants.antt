@@ -1,13 +1,8 @@
 -- `resync::first_boundary` meets its contract. The loop's invariant: none of the offsets passed is a boundary. Assumes nothing.
 use Prim.Native.Nat.{ℕ, ◌≤◌, ◌<◌, ◌-◌}
-use borrow.Author.Rules.{rules}
 use lib.ListN.{length}
 use mathlib.Core.Bool.{false}
-use mathlib.Core.Path.{◌≡◌, sym, ◌∙◌}
-use native.Mathlib.Omega.{arith}
-use Rattle.resync.proofs.Chain.{no_record}
-use Rattle.resync.proofs.First.{one_more_lem, both_ranges}
-use Rattle.record.proofs.Valid.{invalid_none}
+use mathlib.Core.Path.{◌≡◌}
 use Rattle.resync.specs.Boundary.{boundary}
 use Rattle.record.specs.Record.{plausible, next_at}
 use Rattle.resync.proofs.first_boundary.Given as goal

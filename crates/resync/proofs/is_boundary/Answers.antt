@@ -1,5 +1,4 @@
 -- `resync::is_boundary` meets its contract. Assumes nothing.
-use borrow.Author.Rules.{rules}
 use borrow.Author.Tests.{lt-ltb, le-ltb}
 use mathlib.Core.Path.{sym, ap, ◌∙◌}
 use Rattle.resync.specs.Boundary.{boundary_at, boundary_told}

@@ -1,5 +1,4 @@
 -- `resync::next_record_at` meets its contract, by the answers of Searched. Assumes nothing.
-use borrow.Author.Rules.{rules}
 use native.Mathlib.Omega.{arith}
 use Rattle.resync.proofs.Searched.{trace_too_long, window_too_long, no_offset, is_there, is_not}
 use Rattle.resync.proofs.next_record_at.Goals as goal

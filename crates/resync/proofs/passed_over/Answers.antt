@@ -1,11 +1,10 @@
 -- `resync::passed_over` meets its contract. The loop's invariant: of the places passed, none before `first` begins a valid record. Assumes nothing.
-use Prim.Native.Nat.{ℕ, ◌≤◌, ◌-◌, min}
+use Prim.Native.Nat.{ℕ, min}
 use borrow.Author.Rules.{rules}
 use mathlib.Core.List.{List}
 use mathlib.Core.Path.{◌≡◌, ap, ◌∙◌}
 use native.Mathlib.Omega.{arith}
-use Rattle.resync.proofs.Block.{NoneBefore, earlier_of, one_place, whole_block}
-use Rattle.resync.specs.Block.{block}
+use Rattle.resync.proofs.Block.{earlier_of, one_place, whole_block}
 use Rattle.resync.proofs.passed_over.Goals as goal
 
 pub loop-i-init : goal.loop-i-init

@@ -1,5 +1,4 @@
 -- `resync::place_or_end` meets its contract. Assumes nothing.
-use borrow.Author.Rules.{rules}
 use mathlib.Core.Path.{sym, ◌∙◌}
 use Rattle.resync.proofs.place_or_end.Goals as goal
 

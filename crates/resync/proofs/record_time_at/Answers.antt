@@ -1,5 +1,4 @@
 -- `resync::record_time_at` meets its contract: what is found always has a record. Assumes nothing.
-use borrow.Author.Rules.{rules}
 use mathlib.Core.Path.{refl, sym, ap, ◌∙◌}
 use Rattle.record.proofs.Answers.{not_valid}
 use Rattle.resync.proofs.Times.{no_time_lem, time, has_record}

@@ -1,6 +1,5 @@
 -- `seam::open` meets its contract. Assumes nothing.
 use Rattle.seam.proofs.Openings.{too_long, too_short, expected_one, another}
-use borrow.Author.Rules.{rules}
 use Rattle.seam.proofs.open.Goals as goal
 
 pub returns-then-s-gt-TRACE_LIMIT : goal.returns-then-s-gt-TRACE_LIMIT

@@ -1,16 +1,14 @@
 -- `seam::seam_check` meets its contract. The invariant: `records` valid records lead from the place to the one reached, each of some bytes.
 -- The measure is what is left of the trace. Assumes nothing.
-use Prim.Native.Nat.{◌+◌, ◌-◌, ◌≤◌}
+use Prim.Native.Nat.{◌≤◌}
 use native.Mathlib.Omega.{arith}
 use lib.ListN.{length}
-use mathlib.Core.Path.{◌≡◌, refl, sym, ap, ◌∙◌}
-use borrow.Author.Rules.{rules}
+use mathlib.Core.Path.{refl, sym, ap, ◌∙◌}
 use Rattle.layout.specs.Layout.{trace_limit}
 use Rattle.record.proofs.Answers.{not_valid, next_none, next_one}
 use Rattle.record.proofs.Valid.{record_steps}
 use Rattle.record.specs.Record.{plausible, next_at, told_record}
 use Rattle.record.specs.declared.Record.TheVariants.{Valid}
-use Rattle.seam.specs.Seam.{reach, reached}
 use Rattle.seam.proofs.Seams.{too_long, outside, broken, unbroken, one_more_lem, at_start, place_inside}
 use Rattle.seam.proofs.seam_check.Goals as goal
 

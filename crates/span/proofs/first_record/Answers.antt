@@ -4,7 +4,6 @@ use Rattle.record.specs.Record.{plausible}
 use Rattle.span.proofs.Answers.{not_at}
 use Rattle.span.proofs.Exits.{first_long, first_is}
 use Rattle.span.specs.Met.{trace_of, not_met, told_met}
-use borrow.Author.Rules.{rules}
 use Rattle.span.proofs.first_record.Goals as goal
 
 pub returns-then-s-gt-TRACE_LIMIT : goal.returns-then-s-gt-TRACE_LIMIT

@@ -1,16 +1,14 @@
 -- `span::last_back` meets its contract. The loop's invariant: walking back from here on answers what walking back from the first place does. Assumes nothing.
-use Prim.Native.Nat.{suc, ◌-◌, ◌<◌}
-use borrow.Author.Rules.{rules}
 use lib.IntN.{pos}
 use lib.ListN.{length}
 use mathlib.Core.Option.{some}
-use mathlib.Core.Path.{◌≡◌, refl, sym, ap, ◌∙◌}
+use mathlib.Core.Path.{refl, sym, ap, ◌∙◌}
 use native.Mathlib.Omega.{arith}
 use Rattle.record.specs.Record.{plausible}
 use Rattle.span.proofs.Answers.{none_met, meets_of}
 use Rattle.span.proofs.Spans.{met_there, none_there, further_there}
 use Rattle.span.specs.Met.{trace_of, meet, told_met}
-use Rattle.span.specs.Span.{last_back, span_to}
+use Rattle.span.specs.Span.{span_to}
 use Rattle.span.proofs.last_back.Goals as goal
 
 pub loop-next_offset-init : goal.loop-next_offset-init

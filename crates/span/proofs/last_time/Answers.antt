@@ -2,15 +2,12 @@
 use Rattle.span.proofs.Answers.{none_met, meets_of}
 use Rattle.span.proofs.Meets.{met_after}
 use Rattle.span.proofs.Spans.{last_none, last_past, one_more_met}
-use borrow.Author.Rules.{rules}
-use Prim.Native.Nat.{◌-◌}
 use lib.ListN.{length}
-use mathlib.Core.Path.{◌≡◌, refl, sym, ap, ◌∙◌}
+use mathlib.Core.Path.{sym, ap, ◌∙◌}
 use native.Mathlib.Omega.{arith}
 use Rattle.record.specs.Record.{plausible}
 use lib.IntN.{pos}
 use Rattle.span.specs.Met.{trace_of, meet, told_met}
-use Rattle.span.specs.Span.{last_time}
 use Rattle.span.proofs.last_time.Goals as goal
 
 pub returns-in_default : goal.returns-in_default

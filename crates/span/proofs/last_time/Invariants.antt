@@ -1,15 +1,10 @@
 -- `span::last_time` meets its contract. The loop's invariant: the last time from here on is the last time from the start. Assumes nothing.
-use Rattle.span.proofs.Answers.{none_met, meets_of}
-use Rattle.span.proofs.Meets.{met_after}
-use Rattle.span.proofs.Spans.{last_none, last_past, one_more_met}
-use borrow.Author.Rules.{rules}
 use Prim.Native.Nat.{◌-◌}
 use lib.ListN.{length}
-use mathlib.Core.Path.{◌≡◌, refl, sym, ap, ◌∙◌}
-use native.Mathlib.Omega.{arith}
+use mathlib.Core.Path.{◌≡◌}
 use Rattle.record.specs.Record.{plausible}
 use lib.IntN.{pos}
-use Rattle.span.specs.Met.{trace_of, meet, told_met}
+use Rattle.span.specs.Met.{trace_of, meet}
 use Rattle.span.specs.Span.{last_time}
 use Rattle.span.proofs.last_time.Given as goal
 

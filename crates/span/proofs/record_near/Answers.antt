@@ -6,7 +6,6 @@ use Rattle.record.specs.Record.{plausible, told_record}
 use Rattle.resync.specs.Search.{told_search}
 use Rattle.record.specs.declared.Record.TheVariants.{Valid}
 use Rattle.span.proofs.Answers.{no_record, one_record}
-use borrow.Author.Rules.{rules}
 use Rattle.span.proofs.record_near.Goals as goal
 
 pub returns-in_default : goal.returns-in_default

@@ -1,7 +1,6 @@
 -- `ticks::unix_millis` meets its contract: on either side of the epoch the quotient fits an i64. Assumes nothing.
 use mathlib.Core.Path.{◌∙◌, ap}
 use native.Mathlib.Omega.{arith}
-use borrow.Author.Rules.{rules}
 use Rattle.ticks.specs.Ticks.{millis_of}
 use Rattle.ticks.proofs.Sides.{after, before_fits, before}
 use Rattle.ticks.proofs.unix_millis.Goals as goal

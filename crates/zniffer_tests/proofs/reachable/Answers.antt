@@ -4,7 +4,6 @@ use mathlib.Core.Bool.{Bool, not, ◌&&◌, ◌||◌}
 use Prim.Native.Nat.{◌%◌}
 use Rattle.zniffer_numbers.specs.declared.Core.{Core}
 use Rattle.zniffer_tests.specs.Tests.{unfilled, no_region, no_channel, no_frame}
-use borrow.Author.Rules.{rules}
 use Rattle.zniffer_tests.proofs.Laws.{idle_test}
 use Rattle.zniffer_tests.proofs.reachable.Goals as goal
 

@@ -2,10 +2,8 @@
 use Prim.Native.Nat.{ℕ}
 use mathlib.Core.Path.{sym, ap, ◌∙◌}
 use native.Mathlib.Omega.{arith}
-use borrow.Author.Tests.{not-true, not-false}
 use Rattle.reader.specs.Opening.{opening_told}
 use Rattle.reader.proofs.Opens.{too_long, too_short, wrong_sum_lem, wrong_version, right}
-use borrow.Author.Rules.{rules}
 use Rattle.reader.proofs.ZlfReader.new.Goals as goal
 
 pub returns-then-s-gt-TRACE_LIMIT : goal.returns-then-s-gt-TRACE_LIMIT
