@@ -1,0 +1,16 @@
+-- `listing::row_lines` meets its contract: at each turn the lines of the rows from `i` on are left to be put. Assumes nothing.
+use Rattle.listing.proofs.Tables.{next_row, no_row}
+use borrow.Author.Rules.{rules}
+use Prim.Native.Nat.{◌≤◌, ◌-◌}
+use mathlib.Core.Path.{◌≡◌, refl}
+use mathlib.Core.List.{flat_map}
+use lib.ListN.{length, take, drop}
+use Rattle.text.proofs.Puts.{Left, all_left, less_left, none_left}
+use Rattle.lines.specs.Lines.{row_text}
+use Rattle.listing.proofs.row_lines.Given as goal
+
+abbrev pub invariant-loop-i : goal.invariant-loop-i
+invariant-loop-i l = (l.i ≤ 600) × (length l.out ≡ length l.initial.out) × Left (flat_map row_text (take l.n l.rows)) l.initial.out l.at (flat_map row_text (drop l.i (take l.n l.rows))) l.out l.next
+
+abbrev pub decreases-loop-i : goal.decreases-loop-i
+decreases-loop-i l = 600 - l.i
