@@ -12,7 +12,6 @@ use Rattle.choice.proofs.Flat.{flat_same, flat_append, map_flat, flat_map_lem}
 use Rattle.bracket.specs.Bracket.{Piece, bodies}
 use Rattle.pti.specs.Frame.{frame_of}
 use Rattle.pti.specs.declared.Parsed.{Parsed}
-use Rattle.pti.specs.declared.Parsed.TheVariants as Parsed
 use Rattle.pti.proofs.Mpdus.{mpdu_inside}
 use Rattle.rows.specs.Frames.{Placed, held_by, held_in, pti_from, frames_from}
 use Rattle.rows.proofs.Walk.{is_pti_lem}

@@ -1,5 +1,5 @@
 -- 02's request 12: two payloads joined, on 02's premises. Nothing else is in this file. Assumes nothing.
-use Prim.Native.Nat.{ℕ, ◌+◌, ◌<◌, ◌≤◌}
+use Prim.Native.Nat.{ℕ, ◌<◌, ◌≤◌}
 use lib.ListN.{length, length-append}
 use mathlib.Core.List.{List, ◌++◌, map, flat_map}
 use mathlib.Core.Path.{◌≡◌, sym, ap, ◌∙◌}

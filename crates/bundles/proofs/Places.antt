@@ -12,10 +12,8 @@ use Rattle.choice.proofs.Flat.{flat_same, flat_append, map_flat, flat_map_lem}
 use Rattle.bracket.specs.Bracket.{Piece, bodies}
 use Rattle.pti.specs.Frame.{frame_of}
 use Rattle.pti.specs.declared.Parsed.{Parsed}
-use Rattle.pti.specs.declared.Parsed.TheVariants as Parsed
 use Rattle.rows.specs.Frames.{Placed, held_by, held_in, pti_from, frames_from, first_of}
 use Rattle.rows.specs.declared.Next.{Next}
-use Rattle.rows.specs.declared.Next.TheVariants as Next
 use Rattle.rows.proofs.Walk.{one_more_lem, none_left, past_end, is_pti_lem}
 use Rattle.bundles.specs.Bundles.{bytes_of, moved_by, Premises}
 use Rattle.bundles.specs.Heard.{placed_by, met_frame, asked, is_pti}

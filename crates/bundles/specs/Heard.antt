@@ -3,11 +3,9 @@ use Rattle.std.specs.Prelude.{ℕ, zero, suc, ◌+◌, eqb, ℤ, take, drop, Boo
 use Rattle.pti.specs.Frame.{frame_of}
 use Rattle.pti.specs.declared.PtiFrame.{PtiFrame}
 use Rattle.pti.specs.declared.Parsed.{Parsed}
-use Rattle.pti.specs.declared.Parsed.TheVariants as Parsed
 use Rattle.rows.specs.Frames.{Placed, shifted, pti_from}
 use Rattle.rows.specs.Rows.{rows_at}
 use Rattle.rows.specs.declared.Next.{Next}
-use Rattle.rows.specs.declared.Next.TheVariants as Next
 use Rattle.rows.specs.declared.Row.{Row}
 
 pub record Heard : Type 0 where

@@ -12,7 +12,6 @@ use Rattle.rows.specs.Rows.{rows_at}
 use Rattle.rows.specs.declared.Row.{Row}
 use Rattle.seam.specs.Seam.{seam_at, told_seam}
 use Rattle.seam.specs.declared.Seam.{Seam}
-use Rattle.seam.specs.declared.Seam.TheVariants as Seam
 use Rattle.paging.proofs.Sizes.{page_room}
 use Rattle.paging.specs.Page.{PageTold}
 use Rattle.cursor.specs.Reading.{Call, Asked, Roomy, Reading, joined, bare, rows_from}

@@ -1,6 +1,6 @@
 -- Pages of an unbroken stretch: what a page takes and what is left after it are all the rows, and less is left. Over any record test and any rows
 -- of a record. Assumes nothing.
-use Prim.Native.Nat.{ℕ, suc, ◌+◌, ◌-◌, ◌≤◌}
+use Prim.Native.Nat.{ℕ, suc, ◌-◌, ◌≤◌}
 use borrow.Author.Tests.{ne_eqb}
 use lib.Dec.{ltb, eqb}
 use lib.IntN.{ℤ, pos}

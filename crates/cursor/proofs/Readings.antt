@@ -17,7 +17,6 @@ use Rattle.rows.specs.declared.Row.{Row}
 use Rattle.seam.specs.Seam.{Unbroken, ends, more}
 use Rattle.paging.specs.Page.{gapped, Taken, taken, PageTold, PageGiven, going_on, last_page, with_none, page_from, told_page}
 use Rattle.paging.specs.declared.Page.{Page}
-use Rattle.paging.specs.declared.Page.TheVariants as Page
 use Rattle.paging.proofs.Answers.{page_answer}
 use Rattle.cursor.specs.Reading.{Call, told, page_rows, Roomy, Chosen, Reading, last, more as further, joined, bare, rows_from}
 use Rattle.cursor.specs.Table.{Answered}

@@ -18,7 +18,6 @@ use Rattle.rows.specs.Rows.{row_of, frames_at, numbered, rows_at}
 use Rattle.rows.specs.declared.Row.{Row}
 use Rattle.seam.specs.Seam.{Unbroken, Broken, seam_at, told_seam}
 use Rattle.seam.specs.declared.Seam.{Seam}
-use Rattle.seam.specs.declared.Seam.TheVariants as Seam
 use Rattle.cursor.specs.Demand.{Demand}
 use Rattle.cursor.specs.Reading.{Call, Asked, Roomy, Reading, last, more, bare, rows_from}
 use Rattle.seam.proofs.Only.{only_seam}

@@ -6,7 +6,6 @@ use Rattle.rows.specs.Rows.{rows_at}
 use Rattle.rows.specs.declared.Row.{Row}
 use Rattle.seam.specs.Seam.{Unbroken, Broken}
 use Rattle.seam.specs.declared.Seam.{Seam}
-use Rattle.seam.specs.declared.Seam.TheVariants as Seam
 use Rattle.cursor.specs.Reading.{Call, page_rows, Asked, Roomy, Chosen, Reading, joined, bare, rows_from, Gaps}
 
 pub record Demand (limits : Limits) (kinds s : List ℕ) (place : ℕ) (check : Seam) : Type 0 where

@@ -1,16 +1,13 @@
 -- The text of a page, as the page's answer and its table give it. Assumes nothing.
 use Prim.Native.Nat.{ℕ, suc}
-use denote.Enum.Declared.{tag_of}
 use lib.Dec.{ltb, eqb}
 use lib.IntN.{ℤ}
 use lib.ListN.{length, take, drop}
 use lib.Seq.{take-append_seam}
 use mathlib.Core.Bool.{false}
 use mathlib.Core.List.{List, ◌++◌, flat_map}
-use mathlib.Core.Logic.{◌⊎◌, ⊎_elim}
 use mathlib.Core.Option.{Option}
 use mathlib.Core.Path.{◌≡◌, refl, sym, ap, ◌∙◌}
-use native.Mathlib.Omega.{arith}
 use Rattle.choice.proofs.Choice.{by_choice}
 use Rattle.resync.specs.Search.{searched, default_window}
 use Rattle.rows.specs.declared.Row.{Row}
@@ -18,7 +15,6 @@ use Rattle.paging.specs.Page.{Taken, taken, gapped, PageTold, PageGiven, next_to
 use Rattle.cursor.specs.Table.{Answered}
 use Rattle.paging.specs.declared.Page.{Page}
 use Rattle.paging.specs.declared.Page.TheVariants.{More, Last, TraceTooLong, WindowTooLong, TableTooShort}
-use Rattle.paging.specs.contracts.Page.{the_type}
 use Rattle.paging.proofs.Pages.{length_gapped}
 use Rattle.lines.specs.Lines.{row_text}
 use Rattle.listing.specs.Listing.{rows_text, pages_text}

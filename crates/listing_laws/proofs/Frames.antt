@@ -16,7 +16,6 @@ use Rattle.bracket.proofs.Splitting.{body_further, body_inside, next_further, ne
 use Rattle.pti.specs.Frame.{frame_of}
 use Rattle.pti.specs.declared.PtiFrame.{PtiFrame}
 use Rattle.pti.specs.declared.Parsed.{Parsed}
-use Rattle.pti.specs.declared.Parsed.TheVariants as Parsed
 use Rattle.zniffer_core.specs.Run.{core_run_from}
 use Rattle.zniffer_numbers.specs.Numbers.{fresh_core, goes_on}
 use Rattle.zniffer_numbers.specs.declared.ParserResult.{ParserResult}

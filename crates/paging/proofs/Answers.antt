@@ -13,7 +13,6 @@ use Rattle.resync.specs.Search.{SearchTold, first_from, start_of, window_of, jud
 use Rattle.rows.specs.declared.Row.{Row}
 use Rattle.paging.specs.Page.{gapped, Taken, taken, PageTold, PageGiven, next_told, lent_to, with_none, page_refused, page_of, page_from, told_page}
 use Rattle.paging.specs.declared.Page.{Page}
-use Rattle.paging.specs.declared.Page.TheVariants as Page
 
 abbrev Answerable : PageTold → Type 0
 Answerable t = (p : Page) × (told_page p ≡ t)

@@ -1,21 +1,18 @@
 -- Counting the rows that a page takes: what the code has at each way out and after each record. Assumes nothing.
-use Prim.Native.Nat.{ℕ, zero, suc, ◌+◌, ◌-◌, ◌≤◌, ◌<◌}
-use borrow.Author.Tests.{eq-eqb, ne_eqb}
-use lib.Dec.{eqb}
+use Prim.Native.Nat.{ℕ, suc, ◌+◌, ◌-◌, ◌≤◌, ◌<◌}
+use borrow.Author.Tests.{ne_eqb}
 use lib.ListN.{length, length-append}
-use mathlib.Core.Bool.{Bool, true, false, cond}
-use mathlib.Core.List.{List, [], ◌∷◌, ◌++◌}
+use mathlib.Core.List.{List, [], ◌∷◌}
 use mathlib.Core.Option.{Option, none, some}
 use mathlib.Core.Path.{◌≡◌, refl, sym, ap, ◌∙◌}
-use native.Mathlib.Decide.{dec_le}
 use native.Mathlib.Omega.{arith}
 use Rattle.layout.specs.Fields.{kind_at, outgoing_at}
 use Rattle.record.proofs.Steps.{Steps}
 use Rattle.rows.proofs.Walk.{at_most}
-use Rattle.rows.specs.Frames.{Placed, frames_from}
+use Rattle.rows.specs.Frames.{Placed}
 use Rattle.rows.specs.Rows.{frames_at, numbered, rows_at, payload_at}
 use Rattle.rows.specs.declared.Row.{Row}
-use Rattle.paging.specs.Page.{Taken, none_taken, with_record, taken_at, taken}
+use Rattle.paging.specs.Page.{Taken, none_taken, with_record, taken}
 use Rattle.paging.proofs.Pages.{taken_stops, taken_on}
 
 numbered_length : (s : List ℕ) (at k : ℕ) (fs : List Placed) → length (numbered s at k fs) ≡ length fs

@@ -11,7 +11,6 @@ use Rattle.steps.specs.declared.Place.{Place}
 use Rattle.paging.specs.Page.{PageTold, PageGiven, told_page}
 use Rattle.paging.specs.Plan.{Planned}
 use Rattle.paging.specs.declared.Page.{Page}
-use Rattle.paging.specs.declared.Page.TheVariants as Page
 use Rattle.paging.specs.declared.Plan.{Plan}
 
 back_page : PageTold → Page

@@ -1,26 +1,23 @@
 -- The plan of a page: what the code has at each way out. Assumes nothing.
-use Prim.Native.Nat.{ℕ, zero, suc, ◌+◌, ◌-◌, ◌≤◌, ◌<◌}
+use Prim.Native.Nat.{ℕ, ◌≤◌, ◌<◌}
 use borrow.Author.Tests.{lt-ltb, le-ltb, eq-eqb, ne_eqb}
 use lib.Dec.{ltb, eqb}
 use lib.ListN.{length}
-use mathlib.Core.Bool.{Bool, true, false, cond}
-use mathlib.Core.List.{List, [], ◌∷◌, ◌++◌}
-use mathlib.Core.Option.{Option, none, some}
+use mathlib.Core.Bool.{cond}
+use mathlib.Core.List.{List}
+use mathlib.Core.Option.{Option, none}
 use mathlib.Core.Path.{◌≡◌, refl, sym, ap, subst, ◌∙◌}
 use native.Mathlib.Omega.{arith}
 use Rattle.choice.proofs.Choice.{by_choice}
 use Rattle.layout.specs.Layout.{trace_limit}
 use Rattle.resync.proofs.Found.{FoundFirst, found_is}
 use Rattle.record.proofs.Valid.{record_steps}
-use Rattle.record.specs.Record.{Limits, plausible, next_at}
-use Rattle.resync.specs.Search.{SearchTold, found, nothing, start_of, searched, default_window}
+use Rattle.record.specs.Record.{plausible, next_at}
+use Rattle.resync.specs.Search.{found, nothing, start_of, searched, default_window}
 use Rattle.rows.specs.Rows.{rows_at}
-use Rattle.rows.specs.declared.Row.{Row}
 use Rattle.paging.specs.Page.{gapped, Taken, taken, PageTold, PageGiven, going_on, last_page, page_refused, with_none, next_told, lent_to, page_of, page_from, told_page}
 use Rattle.steps.specs.Step.{rows_of, start_place}
 use Rattle.paging.specs.Plan.{Planned}
-use Rattle.paging.specs.declared.Page.{Page}
-use Rattle.steps.specs.declared.Place.{Place}
 use Rattle.paging.specs.declared.Plan.{Plan}
 use Rattle.paging.proofs.Counting.{wanted_none}
 use Rattle.paging.proofs.Filled.{filled}

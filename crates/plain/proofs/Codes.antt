@@ -10,7 +10,6 @@ use Rattle.seek.proofs.Only.{only_seek, only_start, only_step}
 use Rattle.seek.specs.Seek.{seek_told, seek_of, told_seek}
 use Rattle.seek.specs.Step.{told_start, start_at, done, step_at, told_step, Driven, ends, goes_on, scans}
 use Rattle.seek.specs.declared.Found.{Found}
-use Rattle.seek.specs.declared.Found.TheVariants as Found
 use Rattle.seek.specs.declared.SeekState.{SeekState}
 use Rattle.seek.specs.declared.SeekStart.{SeekStart}
 use Rattle.seek.specs.declared.SeekStart.TheVariants as Start

@@ -1,6 +1,6 @@
 -- The whole seek and the stepped one answer what the plain one does: on 02's premises, and on weaker ones. The invariant of the halvings: records lead from the
 -- first one to lo, and the plain walk from lo answers what it answers from the first. Assumes nothing.
-use Prim.Native.Nat.{ℕ, zero, suc, ◌+◌, ◌-◌, ◌≤◌, ◌<◌}
+use Prim.Native.Nat.{ℕ, zero, suc, ◌+◌, ◌-◌, ◌≤◌}
 use borrow.Author.Tests.{le-ltb}
 use lib.Dec.{ltb}
 use lib.IntN.{ℤ}

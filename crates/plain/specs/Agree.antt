@@ -4,7 +4,6 @@ use Rattle.std.proofs.Math.Option.{Option, none, some}
 use Rattle.seek.specs.Seek.{SeekTold, seek_told, seek_of}
 use Rattle.seek.specs.Step.{told_state, start_told, start_at, Driven}
 use Rattle.seek.specs.declared.Found.{Found}
-use Rattle.seek.specs.declared.Found.TheVariants as Found
 use Rattle.seek.specs.declared.SeekState.{SeekState}
 use Rattle.seek.specs.declared.SeekStart.{SeekStart}
 use Rattle.seek.specs.declared.SeekStart.TheVariants as Start

@@ -1,6 +1,6 @@
 -- A first record is needed for the stepped seek: of a trace, byte by byte, whose records all lie past the first window, the plain seek and the whole one find
 -- none, and the stepped one finds one. From the first boundary on the other premises hold. Assumes nothing.
-use Prim.Native.Nat.{ℕ, ◌+◌, ◌≤◌, ◌<◌}
+use Prim.Native.Nat.{ℕ, ◌≤◌, ◌<◌}
 use borrow.Author.Tests.{le-ltb}
 use lib.IntN.{ℤ, pos}
 use lib.ListN.{length}

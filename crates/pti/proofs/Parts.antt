@@ -1,9 +1,9 @@
 -- What the tests of `parse_parts` say of a frame, and its fields. `base` is the number of RSSI bytes and `tag` the end tag as the code has
 -- them. Assumes nothing.
-use Prim.Native.Nat.{ℕ, ◌+◌, ◌%◌, ◌≤◌}
+use Prim.Native.Nat.{ℕ, ◌+◌, ◌%◌}
 use lib.Dec.{eqb}
 use lib.IntN.{ℤ}
-use lib.ListN.{length, get_or}
+use lib.ListN.{get_or}
 use mathlib.Core.Bool.{Bool, true, false, ◌||◌, and-false}
 use mathlib.Core.List.{List}
 use mathlib.Core.Path.{◌≡◌, sym, ap, ◌∙◌}
@@ -11,7 +11,6 @@ use borrow.Author.Tests.{eq-eqb, ne_eqb}
 use Rattle.speed.specs.Speed.{speed_for}
 use Rattle.pti.specs.Frame.{direction_of, rssi_size, rssi_of, end_tag, is_beam, beams_of, mpdu_length, protocol_of, fields_of, parts_of}
 use Rattle.pti.specs.declared.PtiFrame.{PtiFrame}
-use Rattle.pti.specs.declared.Parsed.{Parsed}
 use Rattle.pti.specs.declared.Parsed.TheVariants.{Frame, Nothing}
 
 module _ (place : ℕ) (sent : Bool) (part tail : List ℕ) (base tag : ℕ) (eb : base ≡ rssi_size sent) (et : tag ≡ end_tag sent) where

@@ -3,12 +3,11 @@
 use Prim.Native.Nat.{ℕ, zero, suc, ◌+◌, ◌≤◌, ◌<◌}
 use lib.ListN.{length}
 use mathlib.Core.List.{List, [], ◌∷◌}
-use mathlib.Core.Path.{◌≡◌, refl, sym, ap, subst}
+use mathlib.Core.Path.{◌≡◌, refl, sym, ap}
 use native.Mathlib.Omega.{arith}
 use Rattle.pti.specs.declared.PtiFrame.{PtiFrame}
 use Rattle.rows.specs.Frames.{Placed, first_of}
 use Rattle.rows.specs.declared.Next.{Next}
-use Rattle.rows.specs.declared.Next.TheVariants as Next
 
 -- of a frame f from a place on in a payload of n bytes, and the frames after it; g gives the frames from each place on
 pub record Onward (g : ℕ → List Placed) (n from : ℕ) (f : Placed) (fs : List Placed) : Type 0 where

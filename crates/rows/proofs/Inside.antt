@@ -5,7 +5,7 @@ use lib.ListN.{length, get_or, take, drop, length-drop}
 use lib.Seq.{length-take-le, drop-drop, get_or-drop}
 use mathlib.Core.Bool.{Bool, true, false, ◌||◌, cond}
 use mathlib.Core.List.{List, [], ◌∷◌, ◌++◌}
-use mathlib.Core.Path.{◌≡◌, refl, sym, ap, subst, ◌∙◌}
+use mathlib.Core.Path.{◌≡◌, refl, sym, ap, ◌∙◌}
 use native.Mathlib.Decide.{dec_le}
 use native.Mathlib.Omega.{arith}
 use Rattle.choice.proofs.Choice.{either}
@@ -16,7 +16,6 @@ use Rattle.pti.specs.Frame.{frame_of}
 use Rattle.bracket.specs.declared.Split.{Split}
 use Rattle.bracket.specs.declared.Split.TheVariants.{Body, End}
 use Rattle.pti.specs.declared.Parsed.{Parsed}
-use Rattle.pti.specs.declared.Parsed.TheVariants as Parsed
 use Rattle.zniffer_laws.proofs.Theorems.{numbers_agree, payload_ends_there}
 use Rattle.zniffer.specs.Parse.{fresh_parser, run_from}
 use Rattle.zniffer_laws.specs.Statements.{length_of, EndsThere}

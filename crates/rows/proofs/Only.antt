@@ -5,7 +5,6 @@ use Rattle.choice.proofs.Only.{only}
 use Rattle.pti.proofs.Only.{back_frame}
 use Rattle.rows.specs.Told.{NextTold, told_next}
 use Rattle.rows.specs.declared.Next.{Next}
-use Rattle.rows.specs.declared.Next.TheVariants as Next
 
 back_next : NextTold → Next
 back_next t = cond t.frame.is_frame (Next.Frame (back_frame t.frame) t.next) Next.End

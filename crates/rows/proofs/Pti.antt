@@ -4,8 +4,8 @@ use borrow.Author.Tests.{ltb-true}
 use lib.Dec.{ltb}
 use lib.ListN.{length, take, drop, length-drop}
 use lib.Seq.{length-take-le}
-use mathlib.Core.Bool.{Bool, true, false}
-use mathlib.Core.List.{List, [], ◌∷◌, ◌++◌, flat_map}
+use mathlib.Core.Bool.{true, false}
+use mathlib.Core.List.{List, [], ◌++◌, flat_map}
 use mathlib.Core.Path.{◌≡◌, refl, sym, ap, subst, ◌∙◌}
 use native.Mathlib.Omega.{arith}
 use Rattle.choice.proofs.Choice.{by_choice}
@@ -17,12 +17,10 @@ use Rattle.pti.specs.Frame.{frame_of}
 use Rattle.bracket.specs.declared.Split.{Split}
 use Rattle.bracket.specs.declared.Split.TheVariants.{Body, End}
 use Rattle.pti.specs.declared.Parsed.{Parsed}
-use Rattle.pti.specs.declared.Parsed.TheVariants as Parsed
 use Rattle.pti.specs.declared.PtiFrame.{PtiFrame}
-use Rattle.rows.specs.Frames.{Placed, shifted, held_by, held_in, pti_from, first_of}
+use Rattle.rows.specs.Frames.{shifted, held_by, held_in, pti_from, first_of}
 use Rattle.rows.specs.declared.Next.{Next}
-use Rattle.rows.specs.declared.Next.TheVariants as Next
-use Rattle.rows.proofs.Goes.{Onward, Goes, earlier}
+use Rattle.rows.proofs.Goes.{Goes, earlier}
 
 -- one byte stands between a body and the next place
 Closed : Split → Type 0

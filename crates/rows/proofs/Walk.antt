@@ -7,11 +7,9 @@ use lib.ListN.{length}
 use mathlib.Core.Bool.{Bool, true, false, ◌||◌, cond}
 use mathlib.Core.List.{List, [], ◌∷◌}
 use mathlib.Core.Path.{◌≡◌, refl}
-use native.Mathlib.Omega.{arith}
 use Rattle.pti.specs.declared.PtiFrame.{PtiFrame}
-use Rattle.rows.specs.Frames.{Placed, first_of, pti_from, zniffer_from, frames_from}
+use Rattle.rows.specs.Frames.{first_of, pti_from, zniffer_from, frames_from}
 use Rattle.rows.specs.declared.Next.{Next}
-use Rattle.rows.specs.declared.Next.TheVariants as Next
 use Rattle.rows.proofs.Goes.{Goes, first_frame, no_frame_lem, count_most}
 use Rattle.rows.proofs.Pti as pti
 use Rattle.rows.proofs.Zniffer as zniffer

@@ -1,12 +1,10 @@
 -- The frames that a payload's bytes complete: a run's part in them, and that a walk over them goes on. Assumes nothing.
 use Prim.Native.Nat.{ℕ, zero, suc, ◌+◌, ◌-◌, ◌≤◌, ◌<◌}
 use lib.ListN.{length, take, drop, length-drop, drop_of_length-le}
-use denote.Enum.Declared.{tag_of}
 use lib.Seq.{drop-drop, take_all}
 use mathlib.Core.Bool.{Bool, true, false, true≢false}
 use mathlib.Core.List.{List, [], ◌∷◌, ◌++◌}
-use mathlib.Core.Logic.{◌⊎◌, ⊎_elim}
-use mathlib.Core.Path.{◌≡◌, refl, sym, ap, subst, ◌∙◌}
+use mathlib.Core.Path.{◌≡◌, refl, sym, ap, ◌∙◌}
 use native.Mathlib.Decide.{dec_le}
 use native.Mathlib.Numerals.{unary_clauses}
 use native.Mathlib.Omega.{arith}
@@ -14,7 +12,6 @@ use native.Mathlib.Nat.{add_assoc}
 use Rattle.choice.proofs.Choice.{either}
 use Rattle.zniffer_laws.proofs.AfterStep.{fresh_after}
 use Rattle.zniffer_core.proofs.RunLaws.{used_most, used_some}
-use Rattle.zniffer_numbers.specs.contracts.ParserResult.{the_type}
 use Rattle.pti.specs.declared.PtiFrame.{PtiFrame}
 use Rattle.zniffer_numbers.specs.Numbers.{fresh_core, goes_on}
 use Rattle.zniffer_core.specs.Run.{core_step_of, core_run_from}
@@ -22,10 +19,9 @@ use Rattle.zniffer_numbers.specs.declared.Core.{Core}
 use Rattle.zniffer_core.specs.declared.CoreRan.{CoreRan}
 use Rattle.zniffer_numbers.specs.declared.ParserResult.{ParserResult}
 use Rattle.zniffer_numbers.specs.declared.ParserResult.TheVariants.{ValidCommand, ValidFrame, IncompleteFrame, InvalidFrame}
-use Rattle.rows.specs.Frames.{Placed, zniffer_frame, completed, completed_by, zniffer_from, first_of}
+use Rattle.rows.specs.Frames.{zniffer_frame, completed, completed_by, zniffer_from, first_of}
 use Rattle.rows.specs.declared.Next.{Next}
-use Rattle.rows.specs.declared.Next.TheVariants as Next
-use Rattle.rows.proofs.Goes.{Onward, Goes, earlier}
+use Rattle.rows.proofs.Goes.{Goes, earlier}
 
 -- while more bytes are wanted nothing is complete
 wanted : (out : Bool) (end : ℕ) (r : ParserResult) → goes_on r ≡ true → completed out end r ≡ []

@@ -1,5 +1,5 @@
 -- The frames of a record's payload, in order, each with the place in the payload after the bytes that hold it.
-use Rattle.std.specs.Prelude.{ℕ, ◌+◌, ◌-◌, eqb, pos, take, drop, Bool, true, false, ◌||◌, cond}
+use Rattle.std.specs.Prelude.{ℕ, ◌+◌, ◌-◌, eqb, take, drop, Bool, ◌||◌, cond}
 use mathlib.Core.List.{List, [], ◌∷◌, ◌++◌, flat_map}
 use Rattle.std.specs.Int.{w8}
 use Rattle.std.proofs.Common.{to_z}
@@ -7,14 +7,12 @@ use Rattle.bracket.specs.Bracket.{Piece, bodies_from}
 use Rattle.pti.specs.Frame.{direction_of, frame_of}
 use Rattle.pti.specs.declared.PtiFrame.{PtiFrame}
 use Rattle.pti.specs.declared.Parsed.{Parsed}
-use Rattle.pti.specs.declared.Parsed.TheVariants as Parsed
 use Rattle.zniffer_numbers.specs.Numbers.{fresh_core}
 use Rattle.zniffer_core.specs.Run.{core_step_of}
 use Rattle.zniffer_numbers.specs.declared.Core.{Core}
 use Rattle.zniffer_numbers.specs.declared.ParserResult.{ParserResult}
 use Rattle.zniffer_numbers.specs.declared.ParserResult.TheVariants.{ValidCommand, ValidFrame, IncompleteFrame, InvalidFrame}
 use Rattle.rows.specs.declared.Next.{Next}
-use Rattle.rows.specs.declared.Next.TheVariants as Next
 
 -- a frame, its MPDU's place counted in the payload, and the place after the bytes that hold it
 pub record Placed : Type 0 where

@@ -2,7 +2,6 @@
 use Rattle.std.specs.Prelude.{ℕ}
 use Rattle.pti.specs.Told.{ParsedTold, told_frame, no_frame}
 use Rattle.rows.specs.declared.Next.{Next}
-use Rattle.rows.specs.declared.Next.TheVariants as Next
 
 -- the frame, as that of a body is told, and the place after the bytes that hold it; what is not said is 0
 pub record NextTold : Type 0 where

@@ -1,7 +1,7 @@
 -- A stepped seek has one answer: from one state, all ways of driving it end with the same and make as many halvings. Assumes nothing.
 use Prim.Native.Nat.{ℕ, ◌+◌}
 use lib.IntN.{ℤ}
-use mathlib.Core.Bool.{true, false, true≢false, false≢true}
+use mathlib.Core.Bool.{true≢false, false≢true}
 use mathlib.Core.Option.{Option, none, some}
 use mathlib.Core.Path.{◌≡◌, refl, sym, ap, subst, ◌∙◌}
 use native.Mathlib.Omega.{arith}

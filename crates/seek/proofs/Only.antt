@@ -6,7 +6,6 @@ use Rattle.choice.proofs.Only.{only}
 use Rattle.seek.specs.Seek.{SeekTold, told_seek}
 use Rattle.seek.specs.Step.{StateTold, told_state, StartTold, told_start, StepTold, told_step}
 use Rattle.seek.specs.declared.Found.{Found}
-use Rattle.seek.specs.declared.Found.TheVariants as Found
 use Rattle.seek.specs.declared.SeekTime.{SeekTime}
 use Rattle.seek.specs.declared.SeekTime.TheVariants as Seek
 use Rattle.seek.specs.declared.SeekState.{SeekState}

@@ -5,7 +5,6 @@ use Rattle.std.proofs.Math.Option.{Option, none, some}
 use Rattle.layout.specs.Layout.{trace_limit}
 use Rattle.span.specs.Met.{Trace, MetTold, meet, first_met}
 use Rattle.seek.specs.declared.Found.{Found}
-use Rattle.seek.specs.declared.Found.TheVariants as Found
 use Rattle.seek.specs.declared.Narrowed.{Narrowed}
 use Rattle.seek.specs.declared.SeekTime.{SeekTime}
 use Rattle.seek.specs.declared.SeekTime.TheVariants as Seek

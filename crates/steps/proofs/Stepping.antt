@@ -20,7 +20,6 @@ use Rattle.rows.specs.Frames.{first_of}
 use Rattle.rows.proofs.Walk.{one_more_lem}
 use Rattle.rows.specs.Rows.{frames_at, payload_at}
 use Rattle.rows.specs.declared.Next.{Next}
-use Rattle.rows.specs.declared.Next.TheVariants as Next
 use Rattle.steps.specs.Step.{latest, Sound, unsound, moved_to, start_place, StepTold, row_step_at, row_step, no_step, nowhere, unless_long, step_at, step_end, step_from, step_on, step_of}
 use Rattle.steps.specs.declared.Place.{Place}
 use Rattle.seam.proofs.Walks.{stopped, goes_on_lem, by_records}

@@ -10,7 +10,6 @@ use Rattle.pti.specs.declared.PtiFrame.{PtiFrame}
 use Rattle.rows.specs.Frames.{first_of}
 use Rattle.rows.specs.Rows.{row_of, frames_at}
 use Rattle.rows.specs.declared.Next.{Next}
-use Rattle.rows.specs.declared.Next.TheVariants as Next
 use Rattle.rows.specs.declared.Row.{Row}
 use Rattle.seam.specs.Walk.{walk}
 use Rattle.steps.specs.declared.Place.{Place}

@@ -1,5 +1,4 @@
 -- The table that is lent has 600 rows with nothing in them. Assumes nothing.
-use Rattle.std.proofs.Common.{◌≡◌}
 use Rattle.record.specs.Record.{plausible}
 use Rattle.std.proofs.Math.Option.{none}
 use Rattle.paging.specs.Page.{page_at}

@@ -2,9 +2,7 @@
 use Rattle.listing.proofs.Tables.{next_kind, all_kinds}
 use native.Mathlib.Omega.{arith}
 use borrow.Author.Rules.{rules}
-use Prim.Native.Nat.{◌≤◌, ◌-◌}
-use mathlib.Core.Path.{◌≡◌, refl}
-use lib.ListN.{length, take}
+use mathlib.Core.Path.{refl}
 use Rattle.listing.proofs.kind_table.Goals as goal
 
 pub loop-i-init : goal.loop-i-init

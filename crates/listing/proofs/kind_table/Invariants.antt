@@ -1,9 +1,6 @@
 -- `listing::kind_table` meets its contract: at each turn the first `i` kinds are those of the input. Assumes nothing.
-use Rattle.listing.proofs.Tables.{next_kind, all_kinds}
-use native.Mathlib.Omega.{arith}
-use borrow.Author.Rules.{rules}
 use Prim.Native.Nat.{◌≤◌, ◌-◌}
-use mathlib.Core.Path.{◌≡◌, refl}
+use mathlib.Core.Path.{◌≡◌}
 use lib.ListN.{length, take}
 use Rattle.listing.proofs.kind_table.Given as goal
 

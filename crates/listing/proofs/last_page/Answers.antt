@@ -5,7 +5,6 @@ use Rattle.text.proofs.Puts.{renamed}
 use Rattle.paging.specs.Page.{told_page}
 use Rattle.paging.specs.declared.Page.{Page}
 use Rattle.listing.specs.Listing.{rows_text, seam_text}
-use borrow.Author.Rules.{rules}
 use Rattle.listing.proofs.last_page.Goals as goal
 
 pub returns-in-More : goal.returns-in-More

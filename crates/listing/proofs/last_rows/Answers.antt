@@ -1,6 +1,5 @@
 -- `listing::last_rows` meets its contract. Assumes nothing.
 use Rattle.text.proofs.Puts.{joined}
-use borrow.Author.Rules.{rules}
 use Rattle.listing.proofs.last_rows.Goals as goal
 
 pub returns : goal.returns

@@ -1,7 +1,6 @@
 -- `listing::list` meets its contract. Assumes nothing.
 use Rattle.text.proofs.Puts.{renamed}
 use Rattle.listing.proofs.Answers.{short_text, long_text, listed_text, counted}
-use borrow.Author.Rules.{rules}
 use Rattle.listing.proofs.list.Goals as goal
 
 pub returns-then-input-lt-HEAD : goal.returns-then-input-lt-HEAD

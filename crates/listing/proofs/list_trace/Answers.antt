@@ -6,7 +6,6 @@ use Rattle.seam.specs.Opening.{told_opening}
 use Rattle.text.proofs.Puts.{joined, renamed}
 use Rattle.listing.specs.Listing.{pages_text, page_of, seam_text}
 use Rattle.listing.proofs.Answers.{opened_text_lem, refused_text}
-use borrow.Author.Rules.{rules}
 use Rattle.listing.proofs.list_trace.Goals as goal
 
 pub returns-in-Opened : goal.returns-in-Opened

@@ -1,6 +1,5 @@
 -- `listing::put_broken` meets its contract. Assumes nothing.
 use Rattle.lines.proofs.Lines.{fields, line}
-use borrow.Author.Rules.{rules}
 use Rattle.listing.proofs.put_broken.Goals as goal
 
 pub returns : goal.returns

@@ -6,11 +6,10 @@ use Rattle.record.specs.Record.{plausible, next_at}
 use native.Mathlib.Omega.{arith}
 use mathlib.Core.Option.{none}
 use borrow.Author.Rules.{rules}
-use Prim.Native.Nat.{◌≤◌, ◌+◌, ◌-◌}
+use Prim.Native.Nat.{◌+◌, ◌-◌}
 use mathlib.Core.Path.{◌≡◌, refl}
 use lib.ListN.{length}
-use Rattle.layout.specs.Layout.{header_size}
-use Rattle.text.proofs.Puts.{Left, all_left, less_left, none_left, rest_put}
+use Rattle.text.proofs.Puts.{all_left, less_left, none_left, rest_put}
 use Rattle.listing.specs.Listing.{pages_text, page_of, seam_text}
 use Rattle.listing.proofs.put_pages.Goals as goal
 

@@ -1,16 +1,9 @@
 -- `listing::put_pages` meets its contract: at each turn the text of the pages from `offset` on is left to be put. Assumes nothing.
-use Rattle.listing.proofs.Pages.{page_sized, goes_on_lem, is_last, names_none}
-use Rattle.cursor.specs.Table.{blanks}
-use Rattle.rows.specs.Rows.{rows_at}
-use Rattle.record.specs.Record.{plausible, next_at}
-use native.Mathlib.Omega.{arith}
-use mathlib.Core.Option.{none}
-use borrow.Author.Rules.{rules}
-use Prim.Native.Nat.{◌≤◌, ◌+◌, ◌-◌}
-use mathlib.Core.Path.{◌≡◌, refl}
+use Prim.Native.Nat.{◌≤◌, ◌-◌}
+use mathlib.Core.Path.{◌≡◌}
 use lib.ListN.{length}
 use Rattle.layout.specs.Layout.{header_size}
-use Rattle.text.proofs.Puts.{Left, all_left, less_left, none_left, rest_put}
+use Rattle.text.proofs.Puts.{Left}
 use Rattle.listing.specs.Listing.{pages_text, page_of, seam_text}
 use Rattle.listing.proofs.put_pages.Given as goal
 

@@ -4,7 +4,6 @@ use Rattle.text.proofs.Puts.{renamed}
 use Rattle.seam.specs.Seam.{told_seam}
 use Rattle.seam.specs.declared.Seam.{Seam}
 use Rattle.listing.specs.Listing.{seam_line}
-use borrow.Author.Rules.{rules}
 use Rattle.listing.proofs.put_seam.Goals as goal
 
 pub returns-in-Unbroken : goal.returns-in-Unbroken

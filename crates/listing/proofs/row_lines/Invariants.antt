@@ -1,11 +1,9 @@
 -- `listing::row_lines` meets its contract: at each turn the lines of the rows from `i` on are left to be put. Assumes nothing.
-use Rattle.listing.proofs.Tables.{next_row, no_row}
-use borrow.Author.Rules.{rules}
 use Prim.Native.Nat.{◌≤◌, ◌-◌}
-use mathlib.Core.Path.{◌≡◌, refl}
+use mathlib.Core.Path.{◌≡◌}
 use mathlib.Core.List.{flat_map}
 use lib.ListN.{length, take, drop}
-use Rattle.text.proofs.Puts.{Left, all_left, less_left, none_left}
+use Rattle.text.proofs.Puts.{Left}
 use Rattle.lines.specs.Lines.{row_text}
 use Rattle.listing.proofs.row_lines.Given as goal
 

@@ -4,7 +4,6 @@ use Rattle.text.proofs.Puts.{renamed}
 use Rattle.resync.specs.Search.{told_search}
 use Rattle.lines.specs.Lines.{spaced, line_text}
 use Rattle.listing.proofs.Answers.{found_text, none_text_lem, too_long_text, window_text}
-use borrow.Author.Rules.{rules}
 use Rattle.listing.proofs.seam_line.Goals as goal
 
 pub returns-in-Found : goal.returns-in-Found

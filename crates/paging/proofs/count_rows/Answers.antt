@@ -1,16 +1,14 @@
 -- `paging::count_rows` meets its contract. The invariant: the rows counted and those still to be taken from the place reached are the page's, and no
 -- more are counted than bytes are passed. The measure is what is left of the trace. Assumes nothing.
-use Prim.Native.Nat.{◌+◌, ◌-◌, ◌≤◌}
 use native.Mathlib.Omega.{arith}
 use lib.ListN.{length}
-use mathlib.Core.Path.{◌≡◌, refl, sym, ap, ◌∙◌}
-use borrow.Author.Rules.{rules}
+use mathlib.Core.Path.{◌≡◌, sym, ap, ◌∙◌}
 use Rattle.record.proofs.Answers.{not_valid, next_none}
 use Rattle.record.proofs.Valid.{record_steps}
 use Rattle.record.specs.Record.{plausible, next_at}
 use Rattle.rows.specs.Rows.{rows_at}
 use Rattle.steps.proofs.Headers.{header, frames_of, payload_length}
-use Rattle.paging.proofs.Counting.{Counts, begins, stops, full, adds, rows_length, rows_most}
+use Rattle.paging.proofs.Counting.{begins, stops, full, adds, rows_length, rows_most}
 use Rattle.paging.proofs.count_rows.Goals as goal
 
 pub loop-total-init : goal.loop-total-init

@@ -1,11 +1,10 @@
 -- `paging::plan_from` meets its contract. Assumes nothing.
-use mathlib.Core.Path.{refl, sym, ap, ◌∙◌}
+use mathlib.Core.Path.{refl, ap}
 use lib.ListN.{length}
 use Rattle.record.specs.Record.{plausible, next_at}
 use Rattle.rows.specs.Rows.{rows_at}
 use Rattle.paging.specs.Page.{taken, told_page}
 use Rattle.paging.proofs.Planning.{too_short, has_room, none_size}
-use borrow.Author.Rules.{rules}
 use Rattle.paging.proofs.plan_from.Goals as goal
 
 pub returns-then-room-rows : goal.returns-then-room-rows

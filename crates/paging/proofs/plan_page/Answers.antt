@@ -1,9 +1,8 @@
 -- `paging::plan_page` meets its contract. Assumes nothing.
-use mathlib.Core.Path.{refl, sym, ap, ◌∙◌}
+use mathlib.Core.Path.{sym, ap, ◌∙◌}
 use Rattle.resync.specs.Search.{told_search}
 use Rattle.paging.specs.Page.{told_page}
 use Rattle.paging.proofs.Planning.{when_found, found_inside, when_nothing}
-use borrow.Author.Rules.{rules}
 use Rattle.paging.proofs.plan_page.Goals as goal
 
 pub plan_from-requires : goal.plan_from-requires

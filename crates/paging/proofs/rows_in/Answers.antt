@@ -1,7 +1,6 @@
 -- `paging::rows_in` meets its contract. Assumes nothing.
 use mathlib.Core.Path.{ap, ◌∙◌}
 use lib.ListN.{length, take, drop}
-use borrow.Author.Rules.{rules}
 use Prim.Native.Nat.{ℕ, ◌+◌}
 use Rattle.rows.specs.Frames.{frames_from}
 use Rattle.steps.proofs.Headers.{cut_length}

@@ -1,5 +1,4 @@
 -- `pti::beams` meets its contract: at each `return` the tests that led there say which case holds. Assumes nothing.
-use borrow.Author.Rules.{rules}
 use borrow.Author.Tests.{eq-eqb, ne_eqb}
 use Rattle.pti.proofs.beams.Goals as goal
 

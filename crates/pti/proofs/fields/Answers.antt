@@ -1,5 +1,5 @@
 -- `pti::fields` meets its contract: each field is what its function ensures. Assumes nothing.
-use borrow.Author.Rules.{rules, sfits_of}
+use borrow.Author.Rules.{sfits_of}
 use mir.Syntax.{w8}
 use mir.ValLaws.{to_z-of_z}
 use Rattle.pti.proofs.Parts.{filled}

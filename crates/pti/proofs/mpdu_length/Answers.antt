@@ -1,6 +1,5 @@
 -- `pti::mpdu_length` meets its contract: at each `return` the tests that led there say which case holds. Assumes nothing.
 use native.Mathlib.Omega.{arith}
-use borrow.Author.Rules.{rules}
 use borrow.Author.Tests.{eq-eqb, ne_eqb, le-ltb}
 use Rattle.pti.proofs.Mpdu.{beyond, within}
 use Rattle.pti.proofs.mpdu_length.Goals as goal

@@ -1,7 +1,5 @@
 -- `pti::parse_parts` meets its contract: at each `return` the tests that led there say which case holds. Assumes nothing.
 use mathlib.Core.Path.{◌∙◌, ap}
-use borrow.Author.Rules.{rules}
-use borrow.Author.Tests.{not-true, not-false}
 use Rattle.pti.specs.declared.Parsed.TheVariants.{Frame}
 use Rattle.pti.proofs.Parts.{failed, foreign, framed}
 use Rattle.pti.proofs.parse_parts.Goals as goal

@@ -1,7 +1,6 @@
 -- `pti::parse_sided` meets its contract. Assumes nothing.
 use mathlib.Core.Path.{◌∙◌}
 use native.Mathlib.Omega.{arith}
-use borrow.Author.Rules.{rules}
 use Rattle.pti.proofs.Shapes.{short_body, long_body}
 use Rattle.pti.proofs.parse_sided.Goals as goal
 

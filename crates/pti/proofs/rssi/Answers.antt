@@ -2,7 +2,7 @@
 use mathlib.Core.Path.{◌∙◌}
 use mir.Syntax.{w8}
 use mir.ValLaws.{to_z-of_z}
-use borrow.Author.Rules.{rules, sfits_of}
+use borrow.Author.Rules.{sfits_of}
 use Rattle.pti.proofs.rssi.Goals as goal
 
 pub returns-then-sent : goal.returns-then-sent

@@ -4,7 +4,6 @@ use mathlib.Core.Path.{◌≡◌, ap}
 use mir.Syntax.{w8}
 use mir.Val.{to_z}
 use native.Mathlib.Omega.{arith}
-use borrow.Author.Rules.{rules}
 use Rattle.pti.proofs.signed.Goals as goal
 
 pub returns : goal.returns

@@ -1,12 +1,9 @@
 -- `rows::frame_count` meets its contract. The invariant: the frames counted and those from the place reached are all there are, and no more
 -- are counted than bytes are passed. The measure is what is left of the payload. Assumes nothing.
 use Prim.Native.Nat.{◌+◌, ◌-◌, ◌≤◌}
-use native.Mathlib.Omega.{arith}
 use lib.ListN.{length}
-use mathlib.Core.Path.{◌≡◌, refl, sym, ap, ◌∙◌}
-use borrow.Author.Rules.{rules}
+use mathlib.Core.Path.{◌≡◌}
 use Rattle.rows.specs.Frames.{frames_from}
-use Rattle.rows.proofs.Walk.{one_more_lem, none_left, past_end}
 use Rattle.rows.proofs.frame_count.Given as goal
 
 abbrev pub invariant-loop-at : goal.invariant-loop-at

@@ -2,7 +2,6 @@
 use mathlib.Core.Path.{ap, ◌∙◌}
 use Rattle.rows.proofs.Walk.{is_pti_lem, is_zniffer, is_other}
 use Rattle.rows.specs.Frames.{first_of}
-use borrow.Author.Rules.{rules}
 use Rattle.rows.proofs.next_frame.Goals as goal
 
 pub returns-then-kind : goal.returns-then-kind

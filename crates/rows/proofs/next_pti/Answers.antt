@@ -1,12 +1,9 @@
 -- `rows::next_pti` meets its contract. The invariant: the frames from the place reached are those from the place given. The measure is what
 -- is left of the payload. Assumes nothing.
-use Prim.Native.Nat.{◌-◌}
 use native.Mathlib.Omega.{arith}
-use lib.ListN.{length}
-use mathlib.Core.Path.{◌≡◌, refl, sym, ap, ◌∙◌}
-use borrow.Author.Rules.{rules}
+use mathlib.Core.Path.{sym, ap, ◌∙◌}
 use Rattle.bracket.proofs.Splitting.{body_inside, next_further, next_inside}
-use Rattle.rows.specs.Frames.{pti_from, first_of}
+use Rattle.rows.specs.Frames.{first_of}
 use Rattle.rows.proofs.Pti.{past_end, no_body, is_frame, is_nothing, mpdu_fits}
 use Rattle.rows.proofs.next_pti.Goals as goal
 

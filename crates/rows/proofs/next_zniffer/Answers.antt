@@ -1,11 +1,8 @@
 -- `rows::next_zniffer` meets its contract. The invariant: the frames from the place reached are those from the place given. The measure is
 -- what is left of the payload. Assumes nothing.
-use Prim.Native.Nat.{◌-◌}
 use native.Mathlib.Omega.{arith}
-use lib.ListN.{length}
-use mathlib.Core.Path.{◌≡◌, refl, sym, ap, ◌∙◌}
-use borrow.Author.Rules.{rules}
-use Rattle.rows.specs.Frames.{zniffer_from, first_of}
+use mathlib.Core.Path.{sym, ap, ◌∙◌}
+use Rattle.rows.specs.Frames.{first_of}
 use Rattle.rows.proofs.Zniffer.{past_end, code_inside, code_further, incomplete, a_frame, passed}
 use Rattle.rows.proofs.next_zniffer.Goals as goal
 

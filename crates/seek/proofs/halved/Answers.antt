@@ -5,7 +5,6 @@ use Rattle.span.proofs.Answers.{not_at}
 use Rattle.seek.proofs.Targets.{plain}
 use Rattle.seek.proofs.Exits.{unmet, is_met}
 use Rattle.span.specs.Met.{told_met}
-use borrow.Author.Rules.{rules}
 use Rattle.seek.proofs.halved.Goals as goal
 
 pub returns-in_default : goal.returns-in_default

@@ -3,13 +3,10 @@ use mir.Syntax.{w64}
 use mir.Val.{to_z, of_z}
 use Rattle.seek.proofs.Targets.{read_back}
 use Rattle.span.proofs.Answers.{meets_of}
-use borrow.Author.Rules.{rules}
-use Prim.Native.Nat.{◌+◌, ◌-◌, ◌≤◌}
 use lib.ListN.{length}
-use mathlib.Core.Path.{◌≡◌}
 use native.Mathlib.Omega.{arith}
 use Rattle.record.specs.Record.{plausible}
-use Rattle.seek.proofs.Halvings.{plus, none_yet, again, narrowed_enough}
+use Rattle.seek.proofs.Halvings.{none_yet, again, narrowed_enough}
 use Rattle.span.specs.Met.{trace_of, meet}
 use Rattle.seek.specs.Seek.{narrowed}
 use Rattle.seek.proofs.narrow.Goals as goal

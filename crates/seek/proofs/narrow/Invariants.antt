@@ -1,15 +1,9 @@
 -- `seek::narrow` meets its contract. The loop's invariant: the halvings made and those to come are the definition's, and there are no more of them than bytes passed. The target is the number that its bits stand for. Assumes nothing.
-use mir.Syntax.{w64}
-use mir.Val.{to_z, of_z}
-use Rattle.seek.proofs.Targets.{read_back}
-use Rattle.span.proofs.Answers.{meets_of}
-use borrow.Author.Rules.{rules}
 use Prim.Native.Nat.{◌+◌, ◌-◌, ◌≤◌}
 use lib.ListN.{length}
 use mathlib.Core.Path.{◌≡◌}
-use native.Mathlib.Omega.{arith}
 use Rattle.record.specs.Record.{plausible}
-use Rattle.seek.proofs.Halvings.{plus, none_yet, again, narrowed_enough}
+use Rattle.seek.proofs.Halvings.{plus}
 use Rattle.span.specs.Met.{trace_of, meet}
 use Rattle.seek.specs.Seek.{narrowed}
 use Rattle.seek.proofs.narrow.Given as goal

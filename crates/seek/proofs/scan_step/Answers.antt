@@ -6,7 +6,6 @@ use Rattle.record.specs.Record.{plausible}
 use Rattle.seek.proofs.Targets.{plain}
 use Rattle.seek.proofs.Exits.{scan_past, scan_not, scan_met}
 use Rattle.span.specs.Met.{trace_of, meet, told_met}
-use borrow.Author.Rules.{rules}
 use Rattle.seek.proofs.scan_step.Goals as goal
 
 pub returns-then-s-at : goal.returns-then-s-at

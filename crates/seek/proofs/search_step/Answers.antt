@@ -8,7 +8,6 @@ use Rattle.seek.proofs.Targets.{read_back}
 use Rattle.span.proofs.Answers.{unrefused}
 use Rattle.seek.proofs.Exits.{narrow_enough, halving, halving_more}
 use Rattle.span.specs.Met.{trace_of, meet, not_met, told_met}
-use borrow.Author.Rules.{rules}
 use Rattle.seek.specs.Step.{step_of}
 use Rattle.seek.specs.declared.SeekState.TheVariants.{Searching}
 use Rattle.seek.proofs.search_step.Goals as goal

@@ -3,7 +3,6 @@ use mathlib.Core.Path.{sym, ap, ◌∙◌}
 use Rattle.record.specs.Record.{plausible}
 use Rattle.seek.proofs.Exits.{start_is}
 use Rattle.span.specs.Met.{trace_of, told_first}
-use borrow.Author.Rules.{rules}
 use Rattle.seek.proofs.seek_start.Goals as goal
 
 pub returns-in-At : goal.returns-in-At

@@ -7,7 +7,6 @@ use Rattle.seek.proofs.Exits.{step_long, step_fits}
 use Rattle.span.specs.Met.{trace_of, meet}
 use Rattle.seek.specs.Step.{step_of, step_at}
 use Rattle.seek.specs.declared.SeekState.TheVariants.{Searching, Scanning}
-use borrow.Author.Rules.{rules}
 use Rattle.seek.proofs.seek_step.Goals as goal
 
 pub returns-then-s-gt-TRACE_LIMIT : goal.returns-then-s-gt-TRACE_LIMIT

@@ -7,7 +7,6 @@ use Rattle.seek.proofs.Targets.{read_back}
 use Rattle.seek.proofs.Exits.{seek_is, seek_done}
 use Rattle.span.specs.Met.{trace_of, told_first}
 use Rattle.seek.specs.Seek.{seek_of, told_found}
-use borrow.Author.Rules.{rules}
 use Rattle.seek.proofs.seek_time.Goals as goal
 
 pub returns-in_default : goal.returns-in_default

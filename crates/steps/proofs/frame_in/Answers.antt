@@ -1,7 +1,6 @@
 -- `steps::frame_in` meets its contract. Assumes nothing.
 use mathlib.Core.Path.{ap, ◌∙◌}
 use lib.ListN.{take, drop}
-use borrow.Author.Rules.{rules}
 use Prim.Native.Nat.{ℕ, ◌+◌}
 use Rattle.rows.specs.Frames.{first_of, frames_from}
 use Rattle.steps.proofs.Headers.{cut_length}

@@ -1,10 +1,5 @@
 -- `steps::gap_of` meets its contract. Assumes nothing.
-use mathlib.Core.Path.{refl, sym, ap, ◌∙◌}
-use lib.IntN.{ℤ, pos}
-use borrow.Author.Tests.{not-true, not-false}
-use Rattle.steps.specs.Step.{gap_of, before_of}
 use Rattle.steps.proofs.Differences.{difference_fits, difference}
-use borrow.Author.Rules.{rules}
 use Rattle.steps.proofs.gap_of.Goals as goal
 
 pub returns-then-not-has_previous : goal.returns-then-not-has_previous

@@ -1,6 +1,5 @@
 -- `steps::no_step` meets its contract. Assumes nothing.
 use mathlib.Core.Path.{refl}
-use borrow.Author.Rules.{rules}
 use borrow.Author.Tests.{lt-ltb, le-ltb}
 use Rattle.steps.proofs.no_step.Goals as goal
 

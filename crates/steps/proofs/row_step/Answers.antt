@@ -3,7 +3,7 @@ use Rattle.steps.proofs.Placing.{placed}
 use mathlib.Core.Path.{◌∙◌}
 use mir.Syntax.{w64}
 use mir.ValLaws.{to_z-of_z}
-use borrow.Author.Rules.{rules, sfits_of}
+use borrow.Author.Rules.{sfits_of}
 use Rattle.steps.proofs.row_step.Goals as goal
 
 pub returns : goal.returns

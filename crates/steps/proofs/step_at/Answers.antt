@@ -1,6 +1,5 @@
 -- `steps::step_at` meets its contract. Assumes nothing.
 use mathlib.Core.Path.{◌∙◌}
-use borrow.Author.Rules.{rules}
 use Rattle.record.specs.Record.{plausible}
 use Rattle.steps.specs.declared.StepAnswer.TheVariants.{NoSuchPlace}
 use Rattle.steps.proofs.Placing.{none_told}

@@ -1,16 +1,11 @@
 -- `steps::step_from` meets its contract. The invariant: the place reached is one that a page comes to, and gives the same step as the place given, which it
 -- still is where the trace is too long.
 -- The measure is what is left of the trace. Assumes nothing.
-use Prim.Native.Nat.{◌-◌, ◌<◌}
 use native.Mathlib.Omega.{arith}
-use lib.ListN.{length}
-use mathlib.Core.Path.{◌≡◌, refl, sym, ap, ◌∙◌}
-use borrow.Author.Rules.{rules}
+use mathlib.Core.Path.{refl, sym, ap, ◌∙◌}
 use Rattle.record.proofs.Answers.{not_valid, next_none}
-use Rattle.layout.specs.Layout.{trace_limit}
 use Rattle.record.specs.Record.{plausible}
 use Rattle.rows.specs.Frames.{first_of}
-use Rattle.steps.specs.Step.{Sound, step_on}
 use Rattle.steps.specs.declared.Place.{Place}
 use Rattle.steps.specs.declared.StepAnswer.TheVariants.{End}
 use Rattle.steps.proofs.Headers.{header, frames_of, payload_length}

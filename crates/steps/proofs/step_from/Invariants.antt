@@ -2,20 +2,11 @@
 -- still is where the trace is too long.
 -- The measure is what is left of the trace. Assumes nothing.
 use Prim.Native.Nat.{◌-◌, ◌<◌}
-use native.Mathlib.Omega.{arith}
 use lib.ListN.{length}
-use mathlib.Core.Path.{◌≡◌, refl, sym, ap, ◌∙◌}
-use borrow.Author.Rules.{rules}
-use Rattle.record.proofs.Answers.{not_valid, next_none}
+use mathlib.Core.Path.{◌≡◌}
 use Rattle.layout.specs.Layout.{trace_limit}
 use Rattle.record.specs.Record.{plausible}
-use Rattle.rows.specs.Frames.{first_of}
 use Rattle.steps.specs.Step.{Sound, step_on}
-use Rattle.steps.specs.declared.Place.{Place}
-use Rattle.steps.specs.declared.StepAnswer.TheVariants.{End}
-use Rattle.steps.proofs.Headers.{header, frames_of, payload_length}
-use Rattle.steps.proofs.Placing.{none_told}
-use Rattle.steps.proofs.Stepping.{no_row, a_row, onward, row_asked, sound_moved}
 use Rattle.steps.proofs.step_from.Given as goal
 
 abbrev pub invariant-loop-header : goal.invariant-loop-header

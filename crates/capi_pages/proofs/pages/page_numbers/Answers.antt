@@ -1,7 +1,6 @@
 -- `pages::page_numbers` meets its contract: each case of the answer. Assumes nothing.
 use mathlib.Core.Path.{ap, sym, ◌∙◌}
 use Rattle.paging.specs.Page.{told_page}
-use borrow.Author.Rules.{rules}
 use Rattle.capi_pages.proofs.pages.page_numbers.Goals as goal
 
 pub returns-in-More : goal.returns-in-More

@@ -1,7 +1,6 @@
 -- `pages::seam_numbers` meets its contract: each case of the answer. Assumes nothing.
 use mathlib.Core.Path.{ap, sym}
 use Rattle.seam.specs.Seam.{told_seam}
-use borrow.Author.Rules.{rules}
 use Rattle.capi_pages.proofs.pages.seam_numbers.Goals as goal
 
 pub returns-in-Unbroken : goal.returns-in-Unbroken

@@ -1,6 +1,5 @@
 -- `pages::zlf_seam` meets its contract. Assumes nothing.
 use mathlib.Core.Path.{◌∙◌}
-use borrow.Author.Rules.{rules}
 use Rattle.capi_pages.proofs.pages.zlf_seam.Goals as goal
 
 pub returns : goal.returns

@@ -1,7 +1,6 @@
 -- `opens::cursor_numbers` meets its contract: each case of the answer. Assumes nothing.
 use mathlib.Core.Path.{ap, sym}
 use Rattle.seam.specs.Opening.{told_opening}
-use borrow.Author.Rules.{rules}
 use Rattle.capi_records.proofs.opens.cursor_numbers.Goals as goal
 
 pub returns-in-Opened : goal.returns-in-Opened

@@ -1,6 +1,5 @@
 -- `opens::zlf_open` meets its contract. Assumes nothing.
 use mathlib.Core.Path.{◌∙◌}
-use borrow.Author.Rules.{rules}
 use Rattle.capi_records.proofs.opens.zlf_open.Goals as goal
 
 pub returns : goal.returns

@@ -1,7 +1,6 @@
 -- `records::record_numbers` meets its contract: each case of the answer. Assumes nothing.
 use mathlib.Core.Path.{ap, sym, ◌∙◌}
 use Rattle.record.specs.Record.{told_record}
-use borrow.Author.Rules.{rules}
 use Rattle.capi_records.proofs.records.record_numbers.Goals as goal
 
 pub returns-in-Valid : goal.returns-in-Valid

@@ -1,7 +1,6 @@
 -- `records::search_numbers` meets its contract: each case of the answer. Assumes nothing.
 use mathlib.Core.Path.{ap, sym}
 use Rattle.resync.specs.Search.{told_search}
-use borrow.Author.Rules.{rules}
 use Rattle.capi_records.proofs.records.search_numbers.Goals as goal
 
 pub returns-in-Found : goal.returns-in-Found

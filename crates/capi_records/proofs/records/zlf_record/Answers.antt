@@ -1,6 +1,5 @@
 -- `records::zlf_record` meets its contract. Assumes nothing.
 use mathlib.Core.Path.{◌∙◌}
-use borrow.Author.Rules.{rules}
 use Rattle.capi_records.proofs.records.zlf_record.Goals as goal
 
 pub returns : goal.returns

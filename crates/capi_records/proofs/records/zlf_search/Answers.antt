@@ -1,6 +1,5 @@
 -- `records::zlf_search` meets its contract. Assumes nothing.
 use mathlib.Core.Path.{◌∙◌}
-use borrow.Author.Rules.{rules}
 use Rattle.capi_records.proofs.records.zlf_search.Goals as goal
 
 pub returns : goal.returns

@@ -1,7 +1,6 @@
 -- `seeks::ended` meets its contract. Assumes nothing.
 use mathlib.Core.Path.{ap}
 use Rattle.seek.specs.Step.{StateTold}
-use borrow.Author.Rules.{rules}
 use Rattle.capi_seeks.proofs.seeks.ended.Goals as goal
 
 pub returns : goal.returns

@@ -3,7 +3,6 @@ use mathlib.Core.Path.{ap, sym, ◌∙◌}
 use Rattle.seek.specs.Step.{done}
 use Rattle.seek.specs.Seek.{told_found}
 use Rattle.seek.specs.declared.Found.{Found}
-use borrow.Author.Rules.{rules}
 use Rattle.capi_seeks.proofs.seeks.found_numbers.Goals as goal
 
 pub returns-in-At : goal.returns-in-At

@@ -2,7 +2,6 @@
 use mathlib.Core.Bool.{false}
 use mathlib.Core.Path.{ap}
 use Rattle.seek.specs.Step.{StateTold}
-use borrow.Author.Rules.{rules}
 use Rattle.capi_seeks.proofs.seeks.going_on.Goals as goal
 
 pub returns : goal.returns

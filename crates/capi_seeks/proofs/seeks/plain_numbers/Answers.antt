@@ -1,7 +1,6 @@
 -- `seeks::plain_numbers` meets its contract: each case of the answer. Assumes nothing.
 use mathlib.Core.Path.{ap, sym}
 use Rattle.plain.specs.Plain.{told_plain}
-use borrow.Author.Rules.{rules}
 use Rattle.capi_seeks.proofs.seeks.plain_numbers.Goals as goal
 
 pub returns-in-Found : goal.returns-in-Found

@@ -1,7 +1,6 @@
 -- `seeks::seek_numbers` meets its contract: each case of the answer. Assumes nothing.
 use mathlib.Core.Path.{ap, sym}
 use Rattle.seek.specs.Seek.{told_seek}
-use borrow.Author.Rules.{rules}
 use Rattle.capi_seeks.proofs.seeks.seek_numbers.Goals as goal
 
 pub returns-in-Found : goal.returns-in-Found

@@ -1,7 +1,6 @@
 -- `seeks::span_numbers` meets its contract: each case of the answer. Assumes nothing.
 use mathlib.Core.Path.{ap, sym}
 use Rattle.span.specs.Span.{told_span}
-use borrow.Author.Rules.{rules}
 use Rattle.capi_seeks.proofs.seeks.span_numbers.Goals as goal
 
 pub returns-in-Times : goal.returns-in-Times

@@ -1,7 +1,6 @@
 -- `seeks::start_numbers` meets its contract: each case of the answer. Assumes nothing.
 use mathlib.Core.Path.{ap, sym, ◌∙◌}
 use Rattle.seek.specs.Step.{start_told, told_start}
-use borrow.Author.Rules.{rules}
 use Rattle.capi_seeks.proofs.seeks.start_numbers.Goals as goal
 
 pub returns-in_default : goal.returns-in_default

@@ -1,7 +1,6 @@
 -- `seeks::state_numbers` meets its contract: each case of the answer. Assumes nothing.
 use mathlib.Core.Path.{ap, sym}
 use Rattle.seek.specs.Step.{told_state}
-use borrow.Author.Rules.{rules}
 use Rattle.capi_seeks.proofs.seeks.state_numbers.Goals as goal
 
 pub returns-in-Searching : goal.returns-in-Searching

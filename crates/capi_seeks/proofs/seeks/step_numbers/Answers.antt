@@ -1,7 +1,6 @@
 -- `seeks::step_numbers` meets its contract: each case of the answer. Assumes nothing.
 use mathlib.Core.Path.{ap, sym, ◌∙◌}
 use Rattle.seek.specs.Step.{told_step}
-use borrow.Author.Rules.{rules}
 use Rattle.capi_seeks.proofs.seeks.step_numbers.Goals as goal
 
 pub returns-in-More : goal.returns-in-More

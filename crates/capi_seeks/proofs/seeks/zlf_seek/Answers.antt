@@ -4,7 +4,6 @@ use Rattle.record.specs.Record.{plausible}
 use Rattle.seek.proofs.Targets.{read_back}
 use Rattle.span.specs.Met.{trace_of}
 use Rattle.seek.specs.Seek.{seek_of}
-use borrow.Author.Rules.{rules}
 use Rattle.capi_seeks.proofs.seeks.zlf_seek.Goals as goal
 
 pub returns : goal.returns

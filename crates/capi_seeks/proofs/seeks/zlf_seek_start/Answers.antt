@@ -1,6 +1,5 @@
 -- `seeks::zlf_seek_start` meets its contract. Assumes nothing.
 use mathlib.Core.Path.{◌∙◌}
-use borrow.Author.Rules.{rules}
 use Rattle.capi_seeks.proofs.seeks.zlf_seek_start.Goals as goal
 
 pub returns : goal.returns

@@ -1,6 +1,5 @@
 -- `seeks::zlf_span` meets its contract. Assumes nothing.
 use mathlib.Core.Path.{◌∙◌}
-use borrow.Author.Rules.{rules}
 use Rattle.capi_seeks.proofs.seeks.zlf_span.Goals as goal
 
 pub returns : goal.returns
