@@ -1,0 +1,11 @@
+-- `zlf::list::put_rows` meets its contract: it is safe and ends. Assumes nothing.
+use Prim.Native.Nat.{◌≤◌, ◌-◌}
+use mathlib.Core.Path.{◌≡◌}
+use lib.ListN.{length}
+use Rattle.zlf.proofs.list.put_rows.Given as goal
+
+abbrev pub invariant-loop-i : goal.invariant-loop-i
+invariant-loop-i l = (l.i ≤ 600) × (length l.lines ≡ length l.initial.lines)
+
+abbrev pub decreases-loop-i : goal.decreases-loop-i
+decreases-loop-i l = 600 - l.i
