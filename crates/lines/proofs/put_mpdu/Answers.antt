@@ -1,5 +1,4 @@
--- `lines::put_mpdu` meets its contract. `told` says of each field of the row, in order, that its number fits; RSSI is the ninth.
--- Assumes nothing.
+-- `lines::put_mpdu` meets its contract. RSSI was widened before it is put, and fits 8 bits, as the row says. Assumes nothing.
 use Rattle.lines.proofs.Lines.{fields, same_field, widened}
 use borrow.Author.Rules.{rules}
 use Rattle.lines.proofs.put_mpdu.Goals as goal

@@ -6,7 +6,6 @@ use mir.ValLaws.{to_z-of_z}
 use borrow.Author.Rules.{sfits_of}
 use Rattle.names.specs.Names.{time_text}
 use Rattle.show.specs.Person.{when_text}
-use borrow.Author.Rules.{sfits_of}
 use Rattle.show.proofs.put_when.Goals as goal
 
 pub returns : goal.returns
