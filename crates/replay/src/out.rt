@@ -74,7 +74,7 @@ pub fn refused(number: u64) -> Said {
     words(REFUSED, 1, number, 0, 0)
 }
 
-// Where a full buffer cannot be written, the bytes in it are lost, and the last write says so.
+// Where a full buffer cannot be written, the bytes in it are lost and the lines go on; the program ends as its last write does.
 pub fn put_byte(rt: &impl Print, out: &mut [u8], at: usize, b: u8) -> usize {
     if at < out.len() {
         out[at] = b;
