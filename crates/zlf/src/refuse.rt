@@ -77,11 +77,18 @@ fn put_words(out: &mut [u8], at: usize, e: Error) -> usize {
 
 // The system's own words on a file, as `No such file or directory`.
 pub fn system(rt: &HostRuntime, path: &[u8], e: Error) {
-    let mut line = [0u8; 8192];
+    let mut line = [0u8; 4200];
     let open = text::put_text(&mut line, 0, b"zlf: ");
-    let name = text::put_text(&mut line, open, path);
-    let colon = text::put_text(&mut line, name, b": ");
-    let words = put_words(&mut line, colon, e);
-    let end = text::put_byte(&mut line, words, b'\n');
-    written(rt, &line, end)
+    let end = text::put_text(&mut line, open, path);
+    failed(rt, &line, end, e);
+}
+
+// The first bytes of a line, and the words of an error.
+fn failed(rt: &HostRuntime, line: &[u8], n: usize, e: Error) {
+    let mut whole = [0u8; 8192];
+    let name = text::put_text(&mut whole, 0, out::first(line, n));
+    let colon = text::put_text(&mut whole, name, b": ");
+    let words = put_words(&mut whole, colon, e);
+    let end = text::put_byte(&mut whole, words, b'\n');
+    written(rt, &whole, end)
 }
