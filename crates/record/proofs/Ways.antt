@@ -12,7 +12,8 @@ use native.Mathlib.Omega.{arith}
 use Rattle.choice.proofs.Choice.{left_true}
 use Rattle.layout.specs.Layout.{kind_of, trace_limit}
 use Rattle.ticks.specs.Ticks.{cleared, unix_millis, epoch, per_millisecond}
-use Rattle.record.specs.Record.{Limits, plausible, ticks_in, length_in, opens_right, kind_known, conditions, all_hold, valid, no_record, fields_at, record_at}
+use Rattle.record.specs.Record.{Limits, plausible, ticks_in, length_in, opens_right, kind_known, conditions, all_hold, valid, no_record, fields_at, record_at, told_record}
+use Rattle.record.specs.declared.Record.TheVariants.{Absent}
 use Rattle.layout.specs.Fields.{ticks_at, properties_at, length_at, end_place, kind_at}
 
 -- a list of tests: one that fails, and each of those that hold
@@ -68,6 +69,10 @@ module _ (limits : Limits) (kinds s : List ℕ) (at : ℕ) where
 
   pub no_kind : length s ≤ trace_limit → (k : ℕ) → k ≡ kind_at kinds s at → k ≡ 0 → no_record 0 ≡ record_at limits kinds s at
   no_kind fits k k-is e = absent fits (fails 4 (ap (λ (n : ℕ). kind_known n) (sym k-is ∙ e)))
+
+  -- the same, as the check finds it
+  pub kind_zero : length s ≤ trace_limit → kind_at kinds s at ≡ 0 → told_record Absent ≡ record_at limits kinds s at
+  kind_zero fits e = no_kind fits 0 (sym e) refl
 
   pub bad_opening :
       length s ≤ trace_limit → (k : ℕ) → k ≡ kind_at kinds s at → opens_right k (get_or s (at + 13) 0) ≡ false → no_record 0 ≡ record_at limits kinds s at

@@ -68,6 +68,7 @@ fn opens_right(kind: u8, first: u8) -> bool
 }
 
 // Reads and validates a single record header, of a trace within the limit.
+#[tactic(auto, using(crate::proofs::Ways::kind_zero))]
 fn record_at(kinds: &[u8; 256], s: &[u8], offset: usize) -> Record
     requires { length s.now ≤ trace_limit }
     ensures { told_record result ≡ record_at plausible kinds.now s.now offset }

