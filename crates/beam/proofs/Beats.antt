@@ -1,82 +1,83 @@
--- Counting a pattern's repeats from an offset on: what one turn of `beam_count` does to the count. Assumes nothing.
+-- Counting a pattern's repeats in what is left of the data: what one turn of `beam_count` does to the count. Assumes nothing.
 use Prim.Native.Nat.{ℕ, zero, suc, ◌+◌, ◌-◌, ◌<◌, ◌≤◌, min}
-use lib.ListN.{length, take, drop, get_or, length-drop, drop_of_length-le}
-use lib.Seq.{drop-cons, drop-drop, length-take-le}
-use mathlib.Core.Bool.{Bool, true, false, and-false}
+use lib.Dec.{eqb}
+use lib.ListN.{length, take, drop, get_or, drop_of_length-le}
+use mathlib.Core.Bool.{Bool, true, false, ◌&&◌, and-false}
 use mathlib.Core.List.{List, [], ◌∷◌}
-use mathlib.Core.Path.{◌≡◌, refl, ap, ◌∙◌}
-use native.Mathlib.Numerals.{add-one}
+use mathlib.Core.Path.{◌≡◌, refl, sym, ap}
 use native.Mathlib.Omega.{arith}
 use borrow.Author.Tests.{eq-eqb, ne_eqb}
+use Rattle.std.specs.List.{starts_with}
+use Rattle.std.proofs.lemmas.List.{take_rest}
 use Rattle.beam.specs.Beam.{starts, starts_marked, repeats, beam_count}
 
--- a pattern that is longer than what is left does not match
-too_long : (pattern xs : List ℕ) → length xs < length pattern → starts pattern xs ≡ false
+-- std's test is the definition's
+pub same_start : (pattern xs : List ℕ) → starts_with eqb xs pattern ≡ starts pattern xs
 unfolding starts
-too_long [] xs h = absurd (omega arith)
-too_long (x ∷ pattern) [] h = refl
-too_long (x ∷ pattern) (y ∷ xs) h = simp (too_long pattern xs (omega arith), and-false)
+same_start [] [] = refl
+same_start [] (y ∷ xs) = refl
+same_start (x ∷ pattern) [] = refl
+same_start (x ∷ pattern) (y ∷ xs) = ap (λ (b : Bool). eqb x y && b) (same_start pattern xs)
 
-pub no_room : (pattern : List ℕ) (size : ℕ) (xs : List ℕ) → length xs < length pattern → repeats (starts_marked pattern) size 0 xs ≡ 0
+-- the bytes of the last match that are still to be passed are dropped
+dropped : (matches : List ℕ → Bool) (size left : ℕ) (xs : List ℕ) → repeats matches size left xs ≡ repeats matches size 0 (drop left xs)
 unfolding repeats
-no_room pattern size [] h = refl
-no_room pattern size (x ∷ xs) h = simp (too_long pattern (x ∷ xs) h, and-false) (no_room pattern size xs (omega arith))
+dropped matches size zero xs = refl
+dropped matches size (suc left) [] = refl
+dropped matches size (suc left) (x ∷ xs) = dropped matches size left xs
 
-module _ (matches : List ℕ → Bool) (size : ℕ) where
-  -- the bytes of the last match that are still to be passed are dropped
-  pub dropped : (left : ℕ) (xs : List ℕ) → repeats matches size left xs ≡ repeats matches size 0 (drop left xs)
+module _ (matches : List ℕ → Bool) (x : ℕ) (xs : List ℕ) where
+  hit : (size : ℕ) → 1 ≤ size → matches (x ∷ xs) ≡ true → repeats matches size 0 (x ∷ xs) ≡ 1 + repeats matches size 0 (drop size (x ∷ xs))
   unfolding repeats
-  dropped zero xs = refl
-  dropped (suc left) [] = refl
-  dropped (suc left) (x ∷ xs) = dropped left xs
+  hit zero some e = absurd (omega arith)
+  hit (suc size) some e = let k : suc size - 1 ≡ size = omega arith in rw (e, k) (ap (λ (n : ℕ). 1 + n) (dropped matches (suc size) size xs))
 
-  counted : (x : ℕ) (xs : List ℕ) → true ≡ matches (x ∷ xs) → repeats matches size 0 (x ∷ xs) ≡ 1 + repeats matches size 0 (drop (size - 1) xs)
+  miss : (size : ℕ) → matches (x ∷ xs) ≡ false → repeats matches size 0 (x ∷ xs) ≡ repeats matches size 0 xs
   unfolding repeats
-  counted x xs e = rw (← e) (ap (λ (n : ℕ). 1 + n) (dropped (size - 1) xs))
+  miss size e = rw e
 
-  advanced : (x : ℕ) (xs : List ℕ) → false ≡ matches (x ∷ xs) → repeats matches size 0 (x ∷ xs) ≡ repeats matches size 0 xs
-  unfolding repeats
-  advanced x xs e = rw (← e)
-
-  module _ (d : List ℕ) (offset : ℕ) (inside : offset < length d) where
-    pub hit : 1 ≤ size → true ≡ matches (drop offset d) → repeats matches size 0 (drop offset d) ≡ 1 + repeats matches size 0 (drop (offset + size) d)
-    hit some e =
-        let k : suc offset + (size - 1) ≡ offset + size = omega arith in
-        rw (drop-cons d offset 0 inside)
-        (counted (get_or d offset 0) (drop (suc offset) d) (rw (drop-cons d offset 0 inside) at e)
-        ∙ ap (λ (xs : List ℕ). 1 + repeats matches size 0 xs) (drop-drop (size - 1) (suc offset) d ∙ ap (λ (n : ℕ). drop n d) k))
-
-    pub miss : false ≡ matches (drop offset d) → repeats matches size 0 (drop offset d) ≡ repeats matches size 0 (drop (offset + 1) d)
-    miss e =
-        rw (drop-cons d offset 0 inside, add-one) (advanced (get_or d offset 0) (drop (suc offset) d) (rw (drop-cons d offset 0 inside) at e))
-
--- the whole count, where so many are counted already and the rest starts at an offset
-abbrev pub total : List ℕ → ℕ → ℕ → ℕ → ℕ
-total d size count offset = min 65535 (count + repeats (starts_marked (take size d)) size 0 (drop offset d))
+-- the whole count, where so many are counted already and so much is left
+abbrev pub total : List ℕ → ℕ → ℕ → List ℕ → ℕ
+total pattern size count rest = min 65535 (count + repeats (starts_marked pattern) size 0 rest)
 
 module _ (d : List ℕ) (size : ℕ) where
   pub empty_pattern : size ≡ 0 → 1 ≡ beam_count size d
   unfolding beam_count
   empty_pattern e = simp (eq-eqb size 0 e)
 
-  pub begun : (size ≡ 0 → ⊥) → total d size 1 size ≡ beam_count size d
-  unfolding beam_count
-  begun h = simp (ne_eqb size 0 h)
-
-  pub cut : (size ≡ 0 → ⊥) → length d ≤ size → 1 ≡ beam_count size d
+  pub cut : (size ≡ 0 → ⊥) → length d < size → 1 ≡ beam_count size d
   unfolding beam_count repeats
-  cut h l = simp (ne_eqb size 0 h, drop_of_length-le d {i = size} l)
+  cut h l = simp (ne_eqb size 0 h, drop_of_length-le d {i = size} (omega arith))
 
-module _ (d : List ℕ) (size count offset : ℕ) (some : 1 ≤ size) where
-  pub one_hit : offset + size ≤ length d → true ≡ starts_marked (take size d) (drop offset d)
-      → total d size (min 65535 (count + 1)) (offset + size) ≡ total d size count offset
-  one_hit fits e = omega (arith, hit (starts_marked (take size d)) size d offset (omega arith) some e)
+  pub begun : (size ≡ 0 → ⊥) → (pattern rest : List ℕ) → pattern ≡ take size d → rest ≡ drop size d → total pattern size 1 rest ≡ beam_count size d
+  unfolding beam_count
+  begun h pattern rest p r = simp (ne_eqb size 0 h, p, r)
 
-  pub one_miss : offset + size ≤ length d → false ≡ starts_marked (take size d) (drop offset d)
-      → total d size count (offset + 1) ≡ total d size count offset
-  one_miss fits e = omega (arith, miss (starts_marked (take size d)) size d offset (omega arith) e)
+module _ (pattern : List ℕ) where
+  -- a repeat is counted, and its bytes are passed
+  pub one_hit : (size count : ℕ) (rest : List ℕ) → 1 ≤ size → 1 ≤ length rest → get_or rest 0 0 ≡ 0x55 → true ≡ starts_with eqb rest pattern
+      → total pattern size (min (count + 1) 65535) (take (length rest - size) (drop size rest)) ≡ total pattern size count rest
+  one_hit size count [] some left m e = absurd (omega arith)
+  one_hit size count (x ∷ xs) some left m e =
+      let one = hit (starts_marked pattern) x xs size some (simp (eq-eqb x 0x55 m, ← same_start pattern (x ∷ xs), ← e)) in
+      rw (take_rest (x ∷ xs) size) (omega (arith, one))
 
-  pub ended : size ≤ length d → length d < offset + size → count ≤ 65535 → count ≡ total d size count offset
-  ended l h c =
-      let r : length (drop offset d) < length (take size d) = simp (length-drop, length-take-le size d l) (omega arith) in
-      omega (arith, no_room (take size d) size (drop offset d) r)
+  -- any other byte is passed
+  pub one_miss : (size count : ℕ) (rest : List ℕ) → 1 ≤ length rest → starts_marked pattern rest ≡ false
+      → total pattern size count (take (length rest - 1) (drop 1 rest)) ≡ total pattern size count rest
+  one_miss size count [] left e = absurd (omega arith)
+  one_miss size count (x ∷ xs) left e = rw (take_rest (x ∷ xs) 1) (ap (λ (n : ℕ). min 65535 (count + n)) (sym (miss (starts_marked pattern) x xs size e)))
+
+  pub unmarked : (rest : List ℕ) → (get_or rest 0 0 ≡ 0x55 → ⊥) → starts_marked pattern rest ≡ false
+  unmarked rest m = simp (ne_eqb (get_or rest 0 0) 0x55 m)
+
+  pub other : (rest : List ℕ) → false ≡ starts_with eqb rest pattern → starts_marked pattern rest ≡ false
+  other rest e = simp (← same_start pattern rest, ← e, and-false)
+
+  pub ended : (size count : ℕ) (rest : List ℕ) → length rest < 1 → count ≤ 65535 → count ≡ total pattern size count rest
+  unfolding repeats
+  ended size count [] e h = omega arith
+  ended size count (x ∷ xs) e h = absurd (omega arith)
+
+-- what a turn does, and the ways out
+pub ruleset turns = (empty_pattern, cut, begun, one_hit, one_miss, unmarked, other, ended)

@@ -1,3 +1,2 @@
-pub mod Starts
 pub mod Beats
 pub mod Marker

@@ -4,7 +4,7 @@ use Prim.Native.Nat.{ℕ, zero, suc, ◌+◌, ◌-◌, ◌≤◌, min}
 use lib.Dec.{eqb}
 use lib.ListN.{take, drop, get_or}
 use lib.Seq.{get_or-take}
-use mathlib.Core.Bool.{Bool, true, false, ◌&&◌}
+use mathlib.Core.Bool.{Bool, true, false, ◌&&◌, and-false}
 use mathlib.Core.List.{List, [], ◌∷◌}
 use mathlib.Core.Path.{◌≡◌, refl, ap, ◌∙◌}
 use native.Mathlib.Omega.{arith}
@@ -13,11 +13,7 @@ use Rattle.beam.specs.Beam.{starts, starts_marked, repeats, beam_count}
 
 first_test : (x y : ℕ) (more : Bool) → x ≡ 0x55 → (t : Bool) → eqb x y ≡ t → (eqb y 0x55 && (t && more)) ≡ (t && more)
 first_test x y more m true e = let h : x ≡ y = eqb-true x y e in simp (eq-eqb y 0x55 (omega arith))
-first_test x y more m false e = none (eqb y 0x55)
-  where
-    none : (b : Bool) → (b && false) ≡ false
-    none true = refl
-    none false = refl
+first_test x y more m false e = and-false (eqb y 0x55)
 
 pub marker_implied : (pattern rest : List ℕ) → get_or pattern 0 0 ≡ 0x55 → starts_marked pattern rest ≡ starts pattern rest
 unfolding starts

@@ -1,11 +1,11 @@
 -- Worked examples beside those that document 01 marks P, by computation. Assumes nothing.
 use mathlib.Core.List.{[], ◌∷◌}
 use mathlib.Core.Path.{◌≡◌, refl}
+use Rattle.std.specs.Prelude.{Some}
 use Rattle.bracket.specs.Bracket.{good, walk, bodies_from, bodies, next_record}
-use Rattle.bracket.specs.declared.Split.TheVariants.{Body}
 
 -- one step over 5B 03 00 02 5D
-pub one_step : next_record (0x5B ∷ 0x03 ∷ 0x00 ∷ 0x02 ∷ 0x5D ∷ []) 0 ≡ Body 3 1 5
+pub one_step : next_record (0x5B ∷ 0x03 ∷ 0x00 ∷ 0x02 ∷ 0x5D ∷ []) 0 ≡ Some (record { at = 3; len = 1; next = 5 })
 unfolding next_record walk good
 one_step = refl
 

@@ -11,8 +11,8 @@ use mathlib.Core.Path.{◌≡◌, refl, sym, ap, subst, ◌∙◌}
 use native.Mathlib.Omega.{arith}
 use borrow.Author.Tests.{ltb-true, ltb-false}
 use Rattle.bracket.specs.Bracket.{length_at, close_at, next_at, good, Piece, body_at, walk, bodies_from, bodies, step_at, next_record, met, steps}
-use Rattle.bracket.specs.declared.Split.{Split}
-use Rattle.bracket.specs.declared.Split.TheVariants.{Body, End}
+use Rattle.bracket.specs.declared.Body.{Body}
+use Rattle.std.specs.Prelude.{Option, None, Some}
 use Rattle.choice.proofs.Choice.{by_choice}
 use Rattle.bracket.proofs.Walks.{past, enough, outside}
 
@@ -28,25 +28,26 @@ pub good_fits : (p : List ℕ) (at : ℕ) → good p at ≡ true → close_at p 
 good_fits p at g = fits_by p at (ltb (close_at p at) (length p)) refl g
 
 -- what a step from a place may answer
-pub Inside : List ℕ → ℕ → Split → Type 0
-Inside p from (Body at len next) = (from < at) × (at + len < next) × (next ≤ length p)
-Inside p from End = Unit
+pub Inside : List ℕ → ℕ → Option Body → Type 0
+Inside p from (Some b) = (from < b.at) × (b.at + b.len < b.next) × (b.next ≤ length p)
+Inside p from None = Unit
 
-from_before : (p : List ℕ) (a b : ℕ) → a ≤ b → (s : Split) → Inside p b s → Inside p a s
+from_before : (p : List ℕ) (a b : ℕ) → a ≤ b → (s : Option Body) → Inside p b s → Inside p a s
 unfolding Inside
-from_before p a b h (Body at len next) i = (omega arith, i.1, i.2)
-from_before p a b h End i = tt
+from_before p a b h (Some x) i = (omega arith, i.1, i.2)
+from_before p a b h None i = tt
 
 module _ (p : List ℕ) where
-  inside_walk : (n at : ℕ) → Inside p at (walk (step_at p) End p n at)
+  inside_walk : (n at : ℕ) → Inside p at (walk (step_at p) None p n at)
   unfolding walk Inside
   inside_walk zero at = tt
   inside_walk (suc n) at =
-      let later = walk (step_at p) End p n (next_at p at) in
-      by_choice (Inside p at) (good p at) {a = step_at p at later} {b = End}
+      let later = walk (step_at p) None p n (next_at p at) in
+      let here : Body = record { at = at + 3; len = length_at p at - 2; next = next_at p at } in
+      by_choice (Inside p at) (good p at) {a = step_at p at later} {b = None}
       (λ (g : good p at ≡ true).
       let f : close_at p at < length p = good_fits p at g in
-      by_choice (Inside p at) (ltb 1 (length_at p at)) {a = Body (at + 3) (length_at p at - 2) (next_at p at)} {b = later}
+      by_choice (Inside p at) (ltb 1 (length_at p at)) {a = Some here} {b = later}
       (λ (m : ltb 1 (length_at p at) ≡ true).
       let l : 1 < length_at p at = ltb-true 1 (length_at p at) m in
       (omega arith, omega arith, omega arith))
@@ -58,31 +59,31 @@ module _ (p : List ℕ) where
   inside at = inside_walk (length p) at
 
   -- the body begins further on and ends before the next place, so it lies inside the payload; the next place is further on
-  module _ (from at len next : ℕ) (e : next_record p from ≡ Body at len next) where
-    met_inside : Inside p from (Body at len next)
+  module _ (from : ℕ) (b : Body) (e : next_record p from ≡ Some b) where
+    met_inside : Inside p from (Some b)
     met_inside = subst (Inside p from) e (inside from)
 
-    pub body_further : from < at
+    pub body_further : from < b.at
     unfolding Inside
     body_further = met_inside.0
 
-    pub body_inside : at + len ≤ length p
+    pub body_inside : b.at + b.len ≤ length p
     unfolding Inside
     body_inside = omega (arith, met_inside)
 
-    pub next_further : from < next
+    pub next_further : from < b.next
     unfolding Inside
     next_further = omega (arith, met_inside)
 
-    pub next_inside : next ≤ length p
+    pub next_inside : b.next ≤ length p
     unfolding Inside
     next_inside = omega (arith, met_inside)
 
 -- one bracket record's part in the bodies, and in the next step
-one_record : (g m : Bool) (here : Piece) (rest : List Piece) (step : Split) (next : ℕ) (later : ℕ → List Piece)
+one_record : (g m : Bool) (here : Piece) (rest : List Piece) (step : Option Body) (next : ℕ) (later : ℕ → List Piece)
     → rest ≡ later next
     → rest ≡ met step later
-    → cond g (cond m (here ∷ []) [] ++ rest) [] ≡ met (cond g (cond m (Body here.at here.len next) step) End) later
+    → cond g (cond m (here ∷ []) [] ++ rest) [] ≡ met (cond g (cond m (Some (record { at = here.at; len = here.len; next = next })) step) None) later
 one_record true true here rest step next later a b = ap (λ (l : List Piece). here ∷ l) a
 one_record true false here rest step next later a b = b
 one_record false m here rest step next later a b = refl
@@ -91,13 +92,13 @@ module _ (p : List ℕ) where
   abbrev with_body : ℕ → List Piece → List Piece
   with_body at rest = body_at p at ++ rest
 
-  head_walk : (n at : ℕ) → length p ≤ n + at → walk with_body [] p n at ≡ met (walk (step_at p) End p n at) (bodies_from p)
+  head_walk : (n at : ℕ) → length p ≤ n + at → walk with_body [] p n at ≡ met (walk (step_at p) None p n at) (bodies_from p)
   unfolding walk bodies_from
   head_walk zero at h = refl
   head_walk (suc n) at h =
       one_record (good p at) (ltb 1 (length_at p at)) (record { at = at + 3; len = length_at p at - 2 })
       (walk with_body [] p n (next_at p at))
-      (walk (step_at p) End p n (next_at p at))
+      (walk (step_at p) None p n (next_at p at))
       (next_at p at)
       (bodies_from p)
       (enough with_body [] p n (length p) (next_at p at) (omega arith) (omega arith))
@@ -108,11 +109,11 @@ module _ (p : List ℕ) where
   unfolding bodies_from next_record
   head at = head_walk (length p) at (omega arith)
 
-  steps_met : (n at : ℕ) → ((next : ℕ) → at < next → steps p n next ≡ bodies_from p next) → (s : Split) → Inside p at s
+  steps_met : (n at : ℕ) → ((next : ℕ) → at < next → steps p n next ≡ bodies_from p next) → (s : Option Body) → Inside p at s
       → met s (λ (next : ℕ). steps p n next) ≡ met s (bodies_from p)
   unfolding Inside
-  steps_met n at h (Body a len next) i = ap (λ (l : List Piece). record { at = a; len = len } ∷ l) (h next (omega arith))
-  steps_met n at h End i = refl
+  steps_met n at h (Some b) i = ap (λ (l : List Piece). record { at = b.at; len = b.len } ∷ l) (h b.next (omega arith))
+  steps_met n at h None i = refl
 
   pub steps_from : (n at : ℕ) → length p ≤ n + at → steps p n at ≡ bodies_from p at
   unfolding steps bodies_from

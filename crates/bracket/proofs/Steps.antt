@@ -1,113 +1,104 @@
 -- What the tests of `good_length` say of a bracket record's length, and what that length says of the next body. `len` is the length as the
 -- code has it. Assumes nothing.
 use Prim.Native.Nat.{ℕ, ◌+◌, ◌-◌, ◌<◌, ◌≤◌}
-use lib.Dec.{eqb, ltb}
 use lib.ListN.{length, get_or}
-use mathlib.Core.Bool.{Bool, true, false, ◌&&◌, cond, true≢false}
+use lib.Seq.{get_or-drop}
+use mathlib.Core.Bool.{Bool, true, false, cond, and-false}
 use mathlib.Core.List.{List}
 use mathlib.Core.Path.{◌≡◌, refl, sym, ap, ◌∙◌}
 use native.Mathlib.Omega.{arith}
-use borrow.Author.Tests.{lt-ltb, le-ltb, eqb-true, ltb-true}
-use Rattle.choice.proofs.Choice.{left_true, right_true}
+use native.Mathlib.Nat.{add-zero}
+use borrow.Author.Tests.{lt-ltb, le-ltb, ne_eqb}
+use Rattle.std.specs.Prelude.{Option, None, Some}
+use Rattle.std.specs.List.{slice_range}
+use Rattle.std.proofs.lemmas.List.{take_rest}
+use Rattle.std.proofs.lemmas.Bool.Decides.{nat_tests}
 use Rattle.bracket.specs.Bracket.{length_at, close_at, next_at, good, good_length, walk, step_at, next_record}
-use Rattle.bracket.specs.declared.Split.{Split}
-use Rattle.bracket.specs.declared.Split.TheVariants.{Body, End}
+use Rattle.bracket.specs.declared.Body.{Body}
 use Rattle.bracket.proofs.Walks.{too_short, past, is_good, unrolled}
 
-neither : (x y a b z : Bool) → (a && b) ≡ false → (x && (y && (a && (b && z)))) ≡ false
-neither false y a b z h = refl
-neither true false a b z h = refl
-neither true true false b z h = refl
-neither true true true false z h = refl
-neither true true true true z h = absurd (true≢false h)
-
-last_true : (x y a b z : Bool) → (x && (y && (a && (b && z)))) ≡ true → z ≡ true
-last_true x y a b z h = right_true b z (right_true a (b && z) (right_true y (a && (b && z)) (right_true x (y && (a && (b && z))) h)))
-
--- the tests of a good bracket record
+-- a good bracket record's length is above 0, and the tests that are not met say that there is none
 module _ (p : List ℕ) (at : ℕ) where
-  abbrev long : Bool
-  long = ltb 4 (length p)
-
-  abbrev fits : Bool
-  fits = ltb (close_at p at) (length p)
-
-  abbrev opens : Bool
-  opens = eqb (get_or p at 0) 0x5B
-
-  abbrev closes : Bool
-  closes = eqb (get_or p (close_at p at) 0) 0x5D
-
-  abbrev some : Bool
-  some = ltb 0 (length_at p at)
-
-  not_good : (opens && closes) ≡ false → good p at ≡ false
-  unfolding good
-  not_good h = neither long fits opens closes some h
-
   some_length : good p at ≡ true → 0 < length_at p at
   unfolding good
-  some_length g = ltb-true 0 (length_at p at) (last_true long fits opens closes some g)
+  some_length g = grind (arith, nat_tests)
 
-module _ (p : List ℕ) (at len : ℕ) (e : len ≡ length_at p at) where
-  abbrev bracketed : Bool
-  bracketed = eqb (get_or p at 0) 0x5B && eqb (get_or p (at + 1 + len) 0) 0x5D
+  not_opened : (get_or p at 0 ≡ 0x5B → ⊥) → good p at ≡ false
+  unfolding good
+  not_opened h = simp (ne_eqb (get_or p at 0) 0x5B h, and-false)
 
-  pub overlong : length p ≤ at + 1 + len → 0 ≡ good_length p at
-  overlong h = sym (ap (λ (b : Bool). cond b (length_at p at) 0) (past p at (omega arith)))
+  not_closed : (get_or p (close_at p at) 0 ≡ 0x5D → ⊥) → good p at ≡ false
+  unfolding good
+  not_closed h = simp (ne_eqb (get_or p (close_at p at) 0) 0x5D h, and-false)
 
-  pub unbracketed : bracketed ≡ false → 0 ≡ good_length p at
-  unbracketed h = sym (ap (λ (b : Bool). cond b (length_at p at) 0) (not_good p at (rw e at h)))
-
-  pub whole : 4 < length p → at + 1 + len < length p → bracketed ≡ true → len ≡ good_length p at
-  whole long fits h =
-      let a : Bool = eqb (get_or p at 0) 0x5B in
-      let b : Bool = eqb (get_or p (at + 1 + len) 0) 0x5D in
-      let opened : get_or p at 0 ≡ 0x5B = eqb-true (get_or p at 0) 0x5B (left_true a b h) in
-      let closed : get_or p (at + 1 + len) 0 ≡ 0x5D = eqb-true (get_or p (at + 1 + len) 0) 0x5D (right_true a b h) in
-      e ∙ sym (ap (λ (b : Bool). cond b (length_at p at) 0) (is_good p at long (omega arith) opened (rw e at closed)))
-
+-- what each test of `good_length` says, where `rest` is the payload from the place on
 module _ (p : List ℕ) (at : ℕ) where
-  none_by : (b : Bool) → good p at ≡ b → cond b (length_at p at) 0 ≡ 0 → good p at ≡ false
-  none_by true g z = absurd (omega (arith, some_length p at g))
-  none_by false g z = g
+  bad : good p at ≡ false → None ≡ good_length p at
+  bad h = sym (ap (λ (b : Bool). cond b (Some (length_at p at)) None) h)
 
-  one_by : (b : Bool) → good p at ≡ b → 0 < cond b (length_at p at) 0 → (good p at ≡ true) × (cond b (length_at p at) 0 ≡ length_at p at)
-  one_by true g z = (g, refl)
-  one_by false g z = absurd (omega arith)
+  pub none : length p ≤ 4 → None ≡ good_length p at
+  none h = bad (too_short p at h)
 
-  pub ended : good p at ≡ false → End ≡ next_record p at
-  unfolding next_record
-  ended bad = sym (unrolled (step_at p) End p at ∙ simp bad)
+  pub beyond : length p ≤ at + 1 → None ≡ good_length p at
+  beyond h = bad (past p at (omega arith))
 
-  pub none : length p ≤ 4 → End ≡ next_record p at
-  none h = ended (too_short p at h)
+  module _ (rest : List ℕ) (r : rest ≡ slice_range p at (length p)) where
+    read : (k : ℕ) → get_or rest k 0 ≡ get_or p (at + k) 0
+    read k = rw (r, take_rest p at) (get_or-drop at p k 0)
 
-  pub passed : length p ≤ at + 1 → End ≡ next_record p at
-  passed h = ended (past p at (omega arith))
+    module _ (len : ℕ) (e : len ≡ get_or rest 1 0) where
+      is_length : len ≡ length_at p at
+      is_length = e ∙ read 1
 
-module _ (p : List ℕ) (at len : ℕ) (e : len ≡ good_length p at) where
-  one_good : 0 < len → (good p at ≡ true) × (len ≡ length_at p at)
-  one_good h =
-      let some : 0 < good_length p at = rw e at h in
-      let is : _ = one_by p at (good p at) refl some in
-      (is.0, e ∙ is.1)
+      closing : get_or rest (len + 1) 0 ≡ get_or p (close_at p at) 0
+      closing = let k : at + (len + 1) ≡ close_at p at = omega (arith, is_length) in read (len + 1) ∙ ap (λ (n : ℕ). get_or p n 0) k
 
-  pub stopped : len ≡ 0 → End ≡ next_record p at
-  stopped z = ended p at (none_by p at (good p at) refl (sym e ∙ z))
+      pub overlong : length p ≤ at + 1 + len → None ≡ good_length p at
+      overlong h = bad (past p at (omega (arith, is_length)))
 
-  pub found : 2 ≤ len → Body (at + 3) (len - 2) (at + len + 2) ≡ next_record p at
+      pub unopened : (get_or rest 0 0 ≡ 0x5B → ⊥) → None ≡ good_length p at
+      unopened h = bad (not_opened p at (λ (o : get_or p at 0 ≡ 0x5B). h (read 0 ∙ simp add-zero o)))
+
+      pub unclosed : (get_or rest (len + 1) 0 ≡ 0x5D → ⊥) → None ≡ good_length p at
+      unclosed h = bad (not_closed p at (λ (c : get_or p (close_at p at) 0 ≡ 0x5D). h (closing ∙ c)))
+
+      pub whole : 4 < length p → at + 1 + len < length p → get_or rest 0 0 ≡ 0x5B → get_or rest (len + 1) 0 ≡ 0x5D → Some len ≡ good_length p at
+      whole long fits opened closed =
+          let good_here = is_good p at long (omega (arith, is_length)) (simp add-zero at (sym (read 0)) ∙ opened) (sym closing ∙ closed) in
+          ap Some is_length ∙ sym (ap (λ (b : Bool). cond b (Some (length_at p at)) None) good_here)
+
+module _ (p : List ℕ) (at len : ℕ) (e : Some len ≡ good_length p at) where
+  one_by : (b : Bool) → good p at ≡ b → Some len ≡ cond b (Some (length_at p at)) None → (good p at ≡ true) × (len ≡ length_at p at)
+  one_by true g z = (g, cc)
+  one_by false g z = absurd cc
+
+  one_good : (good p at ≡ true) × (len ≡ length_at p at)
+  one_good = one_by (good p at) refl e
+
+  pub found : 2 ≤ len → Some (record { at = at + 3; len = len - 2; next = at + len + 2 }) ≡ next_record p at
   unfolding next_record
   found h =
-      let g : (good p at ≡ true) × (len ≡ length_at p at) = one_good (omega arith) in
-      let next : at + len + 2 ≡ at + 1 + len + 1 = omega arith in
-      rw (next, g.1) (sym (unrolled (step_at p) End p at ∙ simp (g.0, lt-ltb 1 (length_at p at) (omega (arith, g.1)))))
+      let next : at + len + 2 ≡ next_at p at = omega (arith, one_good.1) in
+      rw (next, one_good.1) (sym (unrolled (step_at p) None p at ∙ simp (one_good.0, lt-ltb 1 (length_at p at) (omega (arith, one_good.1)))))
 
-  pub onward : (len ≡ 0 → ⊥) → len < 2 → next_record p at ≡ next_record p (at + 3)
+  pub onward : len < 2 → next_record p at ≡ next_record p (at + 3)
   unfolding next_record
-  onward some few =
-      let g : (good p at ≡ true) × (len ≡ length_at p at) = one_good (omega arith) in
-      let third : next_at p at ≡ at + 3 = omega (arith, g.1) in
-      let rest : Split = walk (step_at p) End p (length p) (next_at p at) in
-      let turn : cond (good p at) (step_at p at rest) End ≡ rest = simp (g.0, le-ltb 1 (length_at p at) (omega (arith, g.1))) in
-      unrolled (step_at p) End p at ∙ turn ∙ ap (λ (k : ℕ). walk (step_at p) End p (length p) k) third
+  onward few =
+      let some = some_length p at one_good.0 in
+      let third : next_at p at ≡ at + 3 = omega (arith, one_good.1) in
+      let rest : Option Body = walk (step_at p) None p (length p) (next_at p at) in
+      let turn : cond (good p at) (step_at p at rest) None ≡ rest = simp (one_good.0, le-ltb 1 (length_at p at) (omega (arith, one_good.1))) in
+      unrolled (step_at p) None p at ∙ turn ∙ ap (λ (k : ℕ). walk (step_at p) None p (length p) k) third
+
+module _ (p : List ℕ) (at : ℕ) where
+  not_by : (b : Bool) → good p at ≡ b → None ≡ cond b (Some (length_at p at)) None → good p at ≡ false
+  not_by true g z = absurd cc
+  not_by false g z = g
+
+  pub stopped : None ≡ good_length p at → None ≡ next_record p at
+  unfolding next_record
+  stopped z = sym (unrolled (step_at p) None p at ∙ simp (not_by (good p at) refl z))
+
+pub ruleset lengths = (none, beyond, overlong, unopened, unclosed, whole)
+
+pub ruleset turns = (found, onward, stopped)

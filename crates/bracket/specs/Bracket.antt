@@ -1,7 +1,6 @@
 -- The bracket records of a PTI payload, and the bodies in them.
-use Rattle.std.specs.Prelude.{ℕ, zero, suc, ◌+◌, ◌-◌, eqb, ltb, length, get_or, Bool, ◌&&◌, cond, List, [], ◌∷◌, ◌++◌}
-use Rattle.bracket.specs.declared.Split.{Split}
-use Rattle.bracket.specs.declared.Split.TheVariants.{Body, End}
+use Rattle.std.specs.Prelude.{ℕ, zero, suc, ◌+◌, ◌-◌, eqb, ltb, length, get_or, Bool, ◌&&◌, cond, List, [], ◌∷◌, ◌++◌, Option, None, Some}
+use Rattle.bracket.specs.declared.Body.{Body}
 
 -- 01: "each record is 0x5B, a length L, one skipped byte, a body of L - 2 bytes, 0x5D". L of the bracket record at a place; the place of
 -- its 0x5D; the place after it
@@ -21,9 +20,9 @@ good payload at =
     && (ltb (close_at payload at) (length payload)
     && (eqb (get_or payload at 0) 0x5B && (eqb (get_or payload (close_at payload at) 0) 0x5D && ltb 0 (length_at payload at))))
 
--- L of the good bracket record at a place, 0 where none stands there
-abbrev pub good_length : List ℕ → ℕ → ℕ
-good_length payload at = cond (good payload at) (length_at payload at) 0
+-- L of the good bracket record at a place, none where none stands there
+abbrev pub good_length : List ℕ → ℕ → Option ℕ
+good_length payload at = cond (good payload at) (Some (length_at payload at)) None
 
 -- a body's place in the payload, and its length
 pub record Piece : Type 0 where
@@ -49,16 +48,17 @@ abbrev pub bodies : List ℕ → List Piece
 bodies payload = bodies_from payload 0
 
 -- the next body from a place on, and the place after its bracket record: a bracket record gives its body, or what comes after it
-abbrev pub step_at : List ℕ → ℕ → Split → Split
-step_at payload at rest = cond (ltb 1 (length_at payload at)) (Body (at + 3) (length_at payload at - 2) (next_at payload at)) rest
+abbrev pub step_at : List ℕ → ℕ → Option Body → Option Body
+step_at payload at rest =
+    cond (ltb 1 (length_at payload at)) (Some (record { at = at + 3; len = length_at payload at - 2; next = next_at payload at })) rest
 
-unfoldable pub next_record : List ℕ → ℕ → Split
-next_record payload at = walk (step_at payload) End payload (length payload) at
+unfoldable pub next_record : List ℕ → ℕ → Option Body
+next_record payload at = walk (step_at payload) None payload (length payload) at
 
 -- what a caller meets who takes steps, n at most, each from the place that the last one named
-abbrev pub met : Split → (ℕ → List Piece) → List Piece
-met (Body at len next) rest = record { at = at; len = len } ∷ rest next
-met End rest = []
+abbrev pub met : Option Body → (ℕ → List Piece) → List Piece
+met (Some b) rest = record { at = b.at; len = b.len } ∷ rest b.next
+met None rest = []
 
 unfoldable pub steps : List ℕ → ℕ → ℕ → List Piece
 steps payload zero at = []

@@ -10,6 +10,7 @@ use mathlib.Core.Logic.{⊎_elim}
 use mathlib.Core.Path.{◌≡◌, refl, ap}
 use native.Mathlib.Decide.{dec_le}
 use native.Mathlib.Omega.{arith}
+use Rattle.std.proofs.lemmas.Bool.Decides.{nat_tests}
 use Rattle.choice.proofs.Choice.{by_choice}
 use Rattle.choice.proofs.Flat.{flat_each}
 use Rattle.layout.specs.Layout.{payload_part}
@@ -17,9 +18,9 @@ use Rattle.layout.specs.Fields.{length_at, kind_at, outgoing_at}
 use Rattle.bracket.specs.Bracket.{Piece, bodies}
 use Rattle.beam.specs.Beam.{beam_count, repeats, starts}
 use Rattle.speed.specs.Speed.{speed_for, among}
-use Rattle.pti.specs.Frame.{tail_size, is_beam, speed_of, fields_of, accepted, parts_of, sided_of, tagged_of, frame_of}
-use Rattle.pti.specs.declared.Parsed.{Parsed}
-use Rattle.pti.specs.declared.Parsed.TheVariants.{Frame, Nothing}
+use Rattle.pti.specs.Frame.{tail_size, parts_of, sided_of, tagged_of, frame_of}
+use Rattle.pti.specs.declared.PtiFrame.{PtiFrame}
+use Rattle.std.specs.Prelude.{Option, None, Some}
 use Rattle.zniffer_numbers.specs.declared.Core.{Core}
 use Rattle.zniffer_numbers.specs.declared.ParserResult.{ParserResult}
 use Rattle.zniffer_numbers.specs.declared.ParserResult.TheVariants.{ValidCommand, ValidFrame, IncompleteFrame, InvalidFrame}
@@ -33,21 +34,15 @@ use Rattle.bundles.specs.Beams.{body_most, frame_beams_most, beams_told}
 use Rattle.bundles.specs.Examples.{beam}
 use Rattle.bundles.proofs.Beams.{few_beams, body_short}
 
-abbrev Few : Parsed → Type 0
+abbrev Few : Option PtiFrame → Type 0
 Few r = beams_told r ≤ frame_beams_most
+
+some_beams : (size : ℕ) (part : List ℕ) → 3 ≤ size → length part < 3 * (frame_beams_most + 1) → beam_count size part ≤ frame_beams_most
+some_beams size part three h = few_beams size three part frame_beams_most (omega arith) h (omega arith)
 
 parts_few : (place : ℕ) (sent : Bool) (part tail : List ℕ) → length part < 3 * (frame_beams_most + 1) → Few (parts_of place sent part tail)
 unfolding parts_of
-parts_few place sent part tail h =
-    by_choice Few (accepted sent part tail) {a = Frame (fields_of place sent part tail)} {b = Nothing}
-    (λ (t : accepted sent part tail ≡ true).
-    by_choice (λ (n : ℕ). n ≤ frame_beams_most) (is_beam part)
-    (λ (u : is_beam part ≡ true).
-    by_choice (λ (n : ℕ). beam_count n part ≤ frame_beams_most) (eqb (speed_of sent tail) 3) {a = 4} {b = 3}
-    (λ (v : eqb (speed_of sent tail) 3 ≡ true). few_beams 4 (omega arith) part frame_beams_most (omega arith) h (omega arith))
-    (λ (v : eqb (speed_of sent tail) 3 ≡ false). few_beams 3 (omega arith) part frame_beams_most (omega arith) h (omega arith)))
-    (λ (u : is_beam part ≡ false). omega arith))
-    (λ (t : accepted sent part tail ≡ false). omega arith)
+parts_few place sent part tail h = grind (arith, nat_tests, some_beams)
 
 tail_five : (sent : Bool) → 5 ≤ tail_size sent
 tail_five true = omega arith
@@ -60,7 +55,7 @@ module _ (body : List ℕ) (short : length body ≤ body_most) where
     unfolding sided_of
     sided_few sent =
         let size = length body - tail_size sent - header in
-        by_choice Few (ltb (header + tail_size sent) (length body)) {b = Nothing}
+        by_choice Few (ltb (header + tail_size sent) (length body)) {b = None}
         (λ (t : ltb (header + tail_size sent) (length body) ≡ true).
         parts_few header sent (take size (drop header body)) (drop (length body - tail_size sent) body)
         (omega (arith, tail_five sent, length-take size (drop header body))))
@@ -68,23 +63,11 @@ module _ (body : List ℕ) (short : length body ≤ body_most) where
 
     tagged_few : Few (tagged_of header body)
     unfolding tagged_of
-    tagged_few =
-        by_choice Few (eqb (get_or body (header - 1) 0) 0xF8)
-        (λ (t : eqb (get_or body (header - 1) 0) 0xF8 ≡ true). sided_few false)
-        (λ (t : eqb (get_or body (header - 1) 0) 0xF8 ≡ false).
-        by_choice Few (eqb (get_or body (header - 1) 0) 0xFC) {b = Nothing}
-        (λ (u : eqb (get_or body (header - 1) 0) 0xFC ≡ true). sided_few true)
-        (λ (u : eqb (get_or body (header - 1) 0) 0xFC ≡ false). omega arith))
+    tagged_few = grind (arith, nat_tests, sided_few)
 
   frame_few : Few (frame_of body)
   unfolding frame_of
-  frame_few =
-      by_choice Few (eqb (get_or body 0 0) 2)
-      (λ (t : eqb (get_or body 0 0) 2 ≡ true). tagged_few 12 (omega arith))
-      (λ (t : eqb (get_or body 0 0) 2 ≡ false).
-      by_choice Few (eqb (get_or body 0 0) 3) {b = Nothing}
-      (λ (u : eqb (get_or body 0 0) 3 ≡ true). tagged_few 19 (omega arith))
-      (λ (u : eqb (get_or body 0 0) 3 ≡ false). omega arith))
+  frame_few = grind (arith, nat_tests, tagged_few)
 
 -- so many there can be
 pub frame_reached : (length beam ≡ body_most) × (beams_told (frame_of beam) ≡ frame_beams_most)
@@ -96,9 +79,9 @@ module _ (p : List ℕ) (bytes : (k : ℕ) → get_or p k 0 < 256) where
   abbrev FewIn : Placed → Type 0
   FewIn x = x.frame.beam_count ≤ frame_beams_most
 
-  held_few : (at len : ℕ) (r : Parsed) → Few r → (x : Placed) → Memᴰ x (held_by at len r) → FewIn x
-  held_few at len (Frame f) h x m = omega (arith, ap (λ (y : Placed). y.frame.beam_count) (Memᴰ.eq_of_singleton m))
-  held_few at len Nothing h x m = absurd (Memᴰ.not-nil m)
+  held_few : (at len : ℕ) (r : Option PtiFrame) → Few r → (x : Placed) → Memᴰ x (held_by at len r) → FewIn x
+  held_few at len (Some f) h x m = omega (arith, ap (λ (y : Placed). y.frame.beam_count) (Memᴰ.eq_of_singleton m))
+  held_few at len None h x m = absurd (Memᴰ.not-nil m)
 
   pub pti_few : (x : Placed) → Memᴰ x (pti_from p 0) → FewIn x
   unfolding pti_from

@@ -11,7 +11,8 @@ use Rattle.choice.proofs.Choice.{either}
 use Rattle.choice.proofs.Flat.{flat_same, flat_append, map_flat, flat_map_lem}
 use Rattle.bracket.specs.Bracket.{Piece, bodies}
 use Rattle.pti.specs.Frame.{frame_of}
-use Rattle.pti.specs.declared.Parsed.{Parsed}
+use Rattle.pti.specs.declared.PtiFrame.{PtiFrame}
+use Rattle.std.specs.Prelude.{Option, None, Some}
 use Rattle.pti.proofs.Mpdus.{mpdu_inside}
 use Rattle.rows.specs.Frames.{Placed, held_by, held_in, pti_from, frames_from}
 use Rattle.rows.proofs.Walk.{is_pti_lem}
@@ -31,10 +32,10 @@ part_of_part m n len x h =
 
 -- a frame says in its payload what it says in its body
 module _ (p : List ℕ) where
-  body_says : (b : Piece) (r : Parsed) → frame_of (bytes_of p b) ≡ r
+  body_says : (b : Piece) (r : Option PtiFrame) → frame_of (bytes_of p b) ≡ r
       → map (λ (x : Placed). heard_in p x.frame) (held_by b.at b.len r) ≡ heard_by (bytes_of p b) r
-  body_says b Parsed.Nothing e = refl
-  body_says b (Parsed.Frame f) e =
+  body_says b None e = refl
+  body_says b (Some f) e =
       let same : take f.mpdu_len (drop (b.at + f.mpdu) p) ≡ take f.mpdu_len (drop f.mpdu (bytes_of p b)) =
       ap (take f.mpdu_len) (sym (drop-drop f.mpdu b.at p))
       ∙ sym (part_of_part f.mpdu f.mpdu_len b.len (drop b.at p) (mpdu_inside (bytes_of p b) f e))

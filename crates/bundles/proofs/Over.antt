@@ -1,6 +1,6 @@
 -- The walk over two payloads joined: it is the walk over the first, up to where that stops, and goes on from there; from the second's first byte on it is the
 -- walk over the second. Assumes nothing.
-use Prim.Native.Nat.{ℕ, zero, suc, ◌+◌, ◌<◌, ◌≤◌}
+use Prim.Native.Nat.{ℕ, zero, suc, ◌+◌, ◌<◌}
 use lib.Dec.{eqb, ltb}
 use lib.ListN.{length, get_or, length-append, get_or-append}
 use lib.Seq.{get_or-append-add}
@@ -9,8 +9,9 @@ use mathlib.Core.List.{List, ◌++◌}
 use mathlib.Core.Path.{◌≡◌, refl, sym, ap, ◌∙◌}
 use native.Mathlib.Nat.{add-zero, add_assoc}
 use native.Mathlib.Omega.{arith}
-use borrow.Author.Tests.{ltb-true, ltb-false, lt-ltb, le-ltb}
-use Rattle.choice.proofs.Choice.{left_true, either}
+use borrow.Author.Tests.{lt-ltb}
+use Rattle.std.proofs.lemmas.Bool.Decides.{nat_tests}
+use Rattle.choice.proofs.Choice.{either}
 use Rattle.bracket.specs.Bracket.{length_at, close_at, next_at, good, walk}
 use Rattle.bracket.proofs.Walks.{enough, unrolled}
 use Rattle.bracket.proofs.Splitting.{good_fits}
@@ -31,13 +32,10 @@ tested_same p q r s t = cc
 -- a payload with a good bracket record is longer than 4 bytes
 pub good_long : (p : List ℕ) (at : ℕ) → good p at ≡ true → 4 < length p
 unfolding good
-good_long p at g = ltb-true 4 (length p) (left_true _ _ g)
+good_long p at g = grind (arith, nat_tests)
 
 ltb_past : (far a b : ℕ) → ltb (far + a) (far + b) ≡ ltb a b
-ltb_past far a b =
-    either (ltb a b)
-    (λ (t : ltb a b ≡ true). lt-ltb (far + a) (far + b) (let l : a < b = ltb-true a b t in omega arith) ∙ sym t)
-    (λ (t : ltb a b ≡ false). le-ltb (far + a) (far + b) (let l : b ≤ a = ltb-false a b t in omega arith) ∙ sym t)
+ltb_past far a b = grind (arith, nat_tests)
 
 module _ (p q : List ℕ) where
   -- a good bracket record of the first is one of the two

@@ -8,12 +8,13 @@ use mathlib.Core.List.{List, ◌∷◌, ◌++◌, map, flat_map, Memᴰ}
 use mathlib.Core.Path.{◌≡◌, refl, sym, ap, ◌∙◌}
 use native.Mathlib.Nat.{add_assoc}
 use native.Mathlib.Omega.{arith}
+use Rattle.std.specs.Prelude.{Option, None, Some}
 use Rattle.choice.proofs.Flat.{flat_same, flat_append, map_flat, flat_map_lem}
 use Rattle.bracket.specs.Bracket.{Piece, bodies}
 use Rattle.pti.specs.Frame.{frame_of}
-use Rattle.pti.specs.declared.Parsed.{Parsed}
+use Rattle.pti.specs.declared.PtiFrame.{PtiFrame}
 use Rattle.rows.specs.Frames.{Placed, held_by, held_in, pti_from, frames_from, first_of}
-use Rattle.rows.specs.declared.Next.{Next}
+use Rattle.rows.specs.declared.NextFrame.{NextFrame}
 use Rattle.rows.proofs.Walk.{one_more_lem, none_left, past_end, is_pti_lem}
 use Rattle.bundles.specs.Bundles.{bytes_of, moved_by, Premises}
 use Rattle.bundles.specs.Heard.{placed_by, met_frame, asked, is_pti}
@@ -21,9 +22,9 @@ use Rattle.bundles.proofs.Split.{same_body}
 use Rattle.bundles.proofs.Joined.{joined_places}
 
 -- a body's frame, further on
-held_moved : (far at len : ℕ) (r : Parsed) → held_by (far + at) len r ≡ map (placed_by far) (held_by at len r)
-held_moved far at len Parsed.Nothing = refl
-held_moved far at len (Parsed.Frame f) = rw (add_assoc far at f.mpdu, add_assoc far at len, add_assoc far (at + len) 1) refl
+held_moved : (far at len : ℕ) (r : Option PtiFrame) → held_by (far + at) len r ≡ map (placed_by far) (held_by at len r)
+held_moved far at len None = refl
+held_moved far at len (Some f) = rw (add_assoc far at f.mpdu, add_assoc far at len, add_assoc far (at + len) 1) refl
 
 pub joined_frames : (p q : List ℕ) → Premises p q → pti_from (p ++ q) 0 ≡ pti_from p 0 ++ map (placed_by (length p)) (pti_from q 0)
 unfolding pti_from
@@ -44,15 +45,15 @@ joined_frames p q on =
 
 -- asking for one frame after the other gives all of them
 module _ (kind : ℕ) (out : Bool) (p : List ℕ) where
-  abbrev frame_from : ℕ → Next
+  abbrev frame_from : ℕ → Option NextFrame
   frame_from at = first_of (frames_from kind out p at)
 
-  asked_by : (n at : ℕ) (x : Next) → x ≡ frame_from at → ((next : ℕ) → at < next → asked frame_from n next ≡ frames_from kind out p next)
+  asked_by : (n at : ℕ) (x : Option NextFrame) → x ≡ frame_from at → ((next : ℕ) → at < next → asked frame_from n next ≡ frames_from kind out p next)
       → met_frame x (λ (k : ℕ). asked frame_from n k) ≡ frames_from kind out p at
-  asked_by n at (Next.Frame f next) e later =
-      let is = one_more_lem kind out p at f next e in
-      ap (λ (l : List Placed). record { frame = f; next = next } ∷ l) (later next is.1) ∙ sym is.0
-  asked_by n at Next.End e later = sym (none_left kind out p at e)
+  asked_by n at (Some x) e later =
+      let is = one_more_lem kind out p at x e in
+      ap (λ (l : List Placed). record { frame = x.frame; next = x.next } ∷ l) (later x.next is.1) ∙ sym is.0
+  asked_by n at None e later = sym (none_left kind out p at e)
 
   pub asked_all : (n at : ℕ) → length p ≤ n + at → asked frame_from n at ≡ frames_from kind out p at
   unfolding asked

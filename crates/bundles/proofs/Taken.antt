@@ -1,24 +1,17 @@
 -- A payload that the splitter takes to its last byte is made of bracket records. Assumes nothing.
 use Prim.Native.Nat.{ℕ, zero, suc, ◌+◌, ◌-◌, ◌<◌}
-use lib.Dec.{eqb, ltb}
 use lib.ListN.{length, get_or, take, drop, length-drop, take-append-drop}
 use lib.Seq.{drop-length, drop-drop, drop-cons, length-take-le}
-use mathlib.Core.Bool.{Bool, true, false, ◌&&◌}
+use mathlib.Core.Bool.{true, false}
 use mathlib.Core.List.{List, [], ◌∷◌, ◌++◌, append_assoc, flat_map}
 use mathlib.Core.Path.{◌≡◌, refl, sym, ap, ◌∙◌}
 use native.Mathlib.Numerals.{add-one}
 use native.Mathlib.Omega.{arith}
-use borrow.Author.Tests.{ltb-true, eqb-true}
-use Rattle.choice.proofs.Choice.{either, left_true, right_true}
+use Rattle.std.proofs.lemmas.Bool.Decides.{nat_tests}
+use Rattle.choice.proofs.Choice.{either}
 use Rattle.bracket.specs.Bracket.{length_at, close_at, next_at, good, walk}
 use Rattle.bracket.proofs.Splitting.{good_fits}
 use Rattle.bundles.specs.Bundles.{bracket_of, Consumed, size_at, taken}
-
-last_three : (a b c d e : Bool) → (a && (b && (c && (d && e)))) ≡ true → (c ≡ true) × (d ≡ true) × (e ≡ true)
-last_three a b c d e h =
-    let cde : (c && (d && e)) ≡ true = right_true b (c && (d && e)) (right_true a (b && (c && (d && e))) h) in
-    let de : (d && e) ≡ true = right_true c (d && e) cde in
-    (left_true c (d && e) cde, left_true d e de, right_true d e de)
 
 -- what a good bracket record is made of, and that it is
 module _ (p : List ℕ) where
@@ -29,18 +22,17 @@ module _ (p : List ℕ) where
   inners_from n at = walk (λ (here : ℕ) (rest : List (List ℕ)). inner_at here ∷ rest) [] p n at
 
   module _ (at : ℕ) (g : good p at ≡ true) where
-    said : (eqb (get_or p at 0) 0x5B ≡ true) × (eqb (get_or p (close_at p at) 0) 0x5D ≡ true) × (ltb 0 (length_at p at) ≡ true)
-    unfolding good
-    said = last_three (ltb 4 (length p)) (ltb (close_at p at) (length p)) (eqb (get_or p at 0) 0x5B) (eqb (get_or p (close_at p at) 0) 0x5D) (ltb 0 (length_at p at)) g
-
     pub opened : get_or p at 0 ≡ 0x5B
-    opened = eqb-true (get_or p at 0) 0x5B said.0
+    unfolding good
+    opened = grind (arith, nat_tests)
 
     pub closed : get_or p (close_at p at) 0 ≡ 0x5D
-    closed = eqb-true (get_or p (close_at p at) 0) 0x5D said.1
+    unfolding good
+    closed = grind (arith, nat_tests)
 
     pub some : 0 < length_at p at
-    some = ltb-true 0 (length_at p at) said.2
+    unfolding good
+    some = grind (arith, nat_tests)
 
     pub inner_size : length (inner_at at) ≡ length_at p at - 1
     inner_size = length-take-le (length_at p at - 1) (drop (at + 2) p) (omega (arith, length-drop (at + 2) p, good_fits p at g, some))

@@ -1,7 +1,7 @@
 -- Payloads joined with no premise on their lengths: where the first is consumed, splitting gives what each holds beside the other. That is what it holds alone,
 -- unless it is a bracket record with an empty body, in 4 bytes. Assumes nothing.
 use Prim.Native.Nat.{ℕ, ◌+◌, ◌-◌, ◌<◌, ◌≤◌}
-use lib.Dec.{eqb, ltb}
+use lib.Dec.{ltb}
 use lib.ListN.{length, get_or, drop, length-append, length-map}
 use lib.Seq.{drop-append_seam}
 use mathlib.Core.Bool.{true, false, true≢false, cond}
@@ -10,8 +10,9 @@ use mathlib.Core.Path.{◌≡◌, refl, sym, ap, subst, ◌∙◌}
 use native.Mathlib.Nat.{zero-add}
 use native.Mathlib.Decide.{dec_le}
 use native.Mathlib.Omega.{arith}
-use borrow.Author.Tests.{le-ltb, eqb-true, ne_eqb}
-use Rattle.choice.proofs.Choice.{left_true, right_true, either}
+use borrow.Author.Tests.{le-ltb, ne_eqb}
+use Rattle.std.proofs.lemmas.Bool.Decides.{nat_tests}
+use Rattle.choice.proofs.Choice.{either}
 use Rattle.choice.proofs.Flat.{map_same}
 use Rattle.bracket.specs.Bracket.{length_at, next_at, good, Piece, body_at, bodies_from, bodies}
 use Rattle.bracket.proofs.Walks.{past, is_good, unrolled}
@@ -32,11 +33,7 @@ is_record (w ∷ x ∷ y ∷ z ∷ v ∷ l) n a b d = absurd (omega arith)
 
 empty_is : (p : List ℕ) → empty_record p ≡ true → p ≡ bracket_of (get_or p 2 0 ∷ [])
 unfolding empty_record
-empty_is p t =
-    let later = right_true (eqb (length p) 4) _ t in
-    let last = right_true (eqb (get_or p 0 0) 0x5B) _ later in
-    is_record p (eqb-true (length p) 4 (left_true _ _ t)) (eqb-true (get_or p 0 0) 0x5B (left_true _ _ later)) (eqb-true (get_or p 1 0) 2 (left_true _ _ last))
-    (eqb-true (get_or p 3 0) 0x5D (right_true (eqb (get_or p 1 0) 2) _ last))
+empty_is p t = is_record p (grind (arith, nat_tests)) (grind (arith, nat_tests)) (grind (arith, nat_tests)) (grind (arith, nat_tests))
 
 pub empty_four : (p : List ℕ) → empty_record p ≡ true → length p ≡ 4
 empty_four p t = ap length (empty_is p t) ∙ bracket_size (get_or p 2 0 ∷ [])

@@ -1,8 +1,7 @@
 -- Beams in the body of a bracket record: how many there are at most, and what the count would be without its ceiling.
-use Rattle.std.specs.Prelude.{ℕ, ◌+◌, take, drop, List}
+use Rattle.std.specs.Prelude.{ℕ, ◌+◌, take, drop, List, Option, None, Some}
 use Rattle.beam.specs.Beam.{starts_marked, repeats}
-use Rattle.pti.specs.declared.Parsed.{Parsed}
-use Rattle.pti.specs.declared.Parsed.TheVariants.{Frame, Nothing}
+use Rattle.pti.specs.declared.PtiFrame.{PtiFrame}
 
 -- the beams in some bytes without the ceiling of 65,535: the first bytes, and each match after them
 unfoldable pub uncapped : ℕ → List ℕ → ℕ
@@ -21,6 +20,6 @@ abbrev pub frame_beams_most : ℕ
 frame_beams_most = 78
 
 -- the beam count of what a body holds, 0 where it holds no frame
-abbrev pub beams_told : Parsed → ℕ
-beams_told (Frame f) = f.beam_count
-beams_told Nothing = 0
+abbrev pub beams_told : Option PtiFrame → ℕ
+beams_told (Some f) = f.beam_count
+beams_told None = 0

@@ -1,11 +1,10 @@
 -- What a frame says, wherever it stands: every field of it but the place of its MPDU, and the MPDU's bytes.
-use Rattle.std.specs.Prelude.{ℕ, zero, suc, ◌+◌, eqb, ℤ, take, drop, Bool, ◌||◌, List, [], ◌∷◌, map}
+use Rattle.std.specs.Prelude.{ℕ, zero, suc, ◌+◌, eqb, ℤ, take, drop, Bool, ◌||◌, List, [], ◌∷◌, map, Option, None, Some}
 use Rattle.pti.specs.Frame.{frame_of}
 use Rattle.pti.specs.declared.PtiFrame.{PtiFrame}
-use Rattle.pti.specs.declared.Parsed.{Parsed}
 use Rattle.rows.specs.Frames.{Placed, shifted, pti_from}
 use Rattle.rows.specs.Rows.{rows_at}
-use Rattle.rows.specs.declared.Next.{Next}
+use Rattle.rows.specs.declared.NextFrame.{NextFrame}
 use Rattle.rows.specs.declared.Row.{Row}
 
 pub record Heard : Type 0 where
@@ -37,9 +36,9 @@ abbrev pub heard_in : List ℕ → PtiFrame → Heard
 heard_in bytes f = heard_with f (take f.mpdu_len (drop f.mpdu bytes))
 
 -- of the frame of a body, if it holds one
-abbrev pub heard_by : List ℕ → Parsed → List Heard
-heard_by body (Parsed.Frame f) = heard_in body f ∷ []
-heard_by body Parsed.Nothing = []
+abbrev pub heard_by : List ℕ → Option PtiFrame → List Heard
+heard_by body (Some f) = heard_in body f ∷ []
+heard_by body None = []
 
 abbrev pub heard_body : List ℕ → List Heard
 heard_body body = heard_by body (frame_of body)
@@ -74,11 +73,11 @@ abbrev pub placed_by : ℕ → Placed → Placed
 placed_by far x = record { frame = shifted far x.frame; next = far + x.next }
 
 -- what a caller of `next_frame` meets who asks n times at most, each time from the place that the last frame named
-abbrev pub met_frame : Next → (ℕ → List Placed) → List Placed
-met_frame (Next.Frame f next) rest = record { frame = f; next = next } ∷ rest next
-met_frame Next.End rest = []
+abbrev pub met_frame : Option NextFrame → (ℕ → List Placed) → List Placed
+met_frame (Some x) rest = record { frame = x.frame; next = x.next } ∷ rest x.next
+met_frame None rest = []
 
-unfoldable pub asked : (ℕ → Next) → ℕ → ℕ → List Placed
+unfoldable pub asked : (ℕ → Option NextFrame) → ℕ → ℕ → List Placed
 asked next zero at = []
 asked next (suc n) at = met_frame (next at) (λ (k : ℕ). asked next n k)
 

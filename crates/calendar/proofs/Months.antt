@@ -3,9 +3,10 @@ use Prim.Native.Nat.{ℕ, ◌+◌, ◌-◌, ◌≤◌, ◌<◌}
 use borrow.Author.Tests.{eqb-true, leb-true, le-ltb}
 use lib.Dec.{eqb, leb}
 use lib.ListN.{get_or}
-use mathlib.Core.Bool.{Bool, true, false, cond, ◌&&◌, false≢true}
+use mathlib.Core.Bool.{Bool, true, false, ◌&&◌}
 use mathlib.Core.List.{List, [], ◌∷◌}
-use mathlib.Core.Path.{◌≡◌, refl, subst, ◌∙◌}
+use mir.Val.{bool_byte}
+use mathlib.Core.Path.{◌≡◌, refl, ap, subst, ◌∙◌}
 use native.Mathlib.Numerals.{add-one}
 use native.Mathlib.Omega.{arith}
 use Rattle.calendar.specs.Calendar.{sum, days_before, month_days, first_from, next_month_after}
@@ -16,7 +17,7 @@ starts = 0 ∷ 31 ∷ 59 ∷ 90 ∷ 120 ∷ 151 ∷ 181 ∷ 212 ∷ 243 ∷ 273 
 
 -- the table's entry, with the leap day from March on
 abbrev pub start : Bool → ℕ → ℕ
-start leap m = get_or starts m 0 + cond leap (cond (leb 2 m) 1 0) 0
+start leap m = get_or starts m 0 + bool_byte (leap && leb 2 m)
 
 pub start_is : (leap : Bool) (m : ℕ) → m < 13 → start leap m ≡ days_before leap m
 unfolding starts days_before sum
@@ -50,16 +51,11 @@ month_on leap day m h low =
     let p : 10 - m ≡ 11 - (m + 1) = omega arith in
     rw q (rw (add-one (10 - m)) (on (next_month_after leap day) (10 - m) m (le-ltb day (days_before leap (m + 1)) low) ∙ rw p))
 
-start_leap : (leap : Bool) (m : ℕ) → m ≤ 12 → (leap && leb 2 m) ≡ true → get_or starts m 0 + 1 ≡ days_before leap m
-start_leap true m h e = simp e at (start_is true m (omega arith))
-start_leap false m h e = let z : false ≡ true = e in absurd (false≢true z)
-
-start_common : (leap : Bool) (m : ℕ) → m ≤ 12 → (leap && leb 2 m) ≡ false → get_or starts m 0 ≡ days_before leap m
-start_common true m h e = let q = simp e at (start_is true m (omega arith)) in omega (arith, q)
-start_common false m h e = let q = start_is false m (omega arith) in omega (arith, q)
-
-pub leap_entry : (leap : Bool) (m : ℕ) → m ≤ 12 → (leap && leb 2 m) ≡ true → (get_or starts m 0 + 1 ≡ days_before leap m) × (get_or starts m 0 + 1 ≤ 366)
-leap_entry leap m h e = let q = start_leap leap m h e in let l = at_most leap m (omega arith) in (q, omega arith)
-
-pub common_entry : (leap : Bool) (m : ℕ) → m ≤ 12 → (leap && leb 2 m) ≡ false → (get_or starts m 0 ≡ days_before leap m) × (get_or starts m 0 ≤ 366)
-common_entry leap m h e = let q = start_common leap m h e in let l = at_most leap m (omega arith) in (q, omega arith)
+-- the code's sum
+pub entry : (leap from : Bool) (m n : ℕ) → m ≤ 12 → from ≡ (leap && leb 2 m) → n ≡ bool_byte from
+    → (get_or starts m 0 + n ≡ days_before leap m) × (get_or starts m 0 + n ≤ 366)
+entry leap from m n h e q =
+    let one : n ≡ bool_byte (leap && leb 2 m) = q ∙ ap bool_byte e in
+    let sum = start_is leap m (omega arith) in
+    let most = at_most leap m (omega arith) in
+    (omega arith, omega arith)

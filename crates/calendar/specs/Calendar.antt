@@ -1,10 +1,7 @@
 -- The Gregorian calendar over instants, which are milliseconds from midnight on 1 January of the year 1.
-use Rattle.std.specs.Prelude.{ℕ, zero, suc, ◌+◌, ◌-◌, ◌*◌, ◌/◌, ◌%◌, leb, ltb, eqb, get_or, take, Bool, cond, ◌&&◌, List, [], ◌∷◌}
-use Rattle.std.proofs.Math.Option.{Option, none, some}
+use Rattle.std.specs.Prelude.{ℕ, zero, suc, ◌+◌, ◌-◌, ◌*◌, ◌/◌, ◌%◌, leb, ltb, eqb, get_or, take, Bool, cond, ◌&&◌, List, [], ◌∷◌, Option, None, Some}
 use Rattle.ticks.specs.Ticks.{days_of}
 use Rattle.calendar.specs.declared.Date.{Date}
-use Rattle.calendar.specs.declared.Instant.{Instant}
-use Rattle.calendar.specs.declared.Instant.TheVariants.{At, Nothing}
 
 -- a day's milliseconds
 abbrev pub per_day : ℕ
@@ -98,8 +95,4 @@ millis_to d =
 
 -- the instant of a date, if the calendar has it
 unfoldable pub instant_of : Date → Option ℕ
-instant_of d = cond (is_date d) (some (millis_to d)) none
-
-abbrev pub told_instant : Instant → Option ℕ
-told_instant (At millis) = some millis
-told_instant Nothing = none
+instant_of d = cond (is_date d) (Some (millis_to d)) None

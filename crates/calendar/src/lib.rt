@@ -4,10 +4,10 @@
 
 ghost use Rattle.std.specs.Prelude.{true, ◌≡◌, ◌+◌, ◌-◌, ◌*◌, ◌≤◌, ◌<◌};
 ghost use Rattle.ticks.specs.Ticks.{days_of};
-ghost use Rattle.calendar.specs.Calendar.{years_gone, months_gone, days_before, leap_after, date_of, length_of, is_day, is_time, days_to, instant_of, told_instant};
+ghost use Rattle.calendar.specs.Calendar.{years_gone, months_gone, days_before, leap_after, date_of, length_of, is_day, is_time, days_to, instant_of};
 
 // A date and a time of day, in UTC. Months and days count from 1.
-#[derive(Clone, Copy)]
+#[derive(Clone, Copy, Debug, PartialEq, Eq)]
 pub struct Date {
     pub year: u64,
     pub month: u64,
@@ -16,14 +16,6 @@ pub struct Date {
     pub minute: u64,
     pub second: u64,
     pub milli: u64,
-}
-
-// The instant of a date.
-#[derive(Clone, Copy)]
-pub enum Instant {
-    At { millis: u64 },
-    // No such day or time of day, or a year that four digits do not write.
-    Nothing,
 }
 
 const PER_DAY: u64 = 86_400_000;
@@ -43,21 +35,21 @@ fn days_of(n: u64) -> u64
 }
 
 // The years that have gone by on a day: a guess from the mean length of a year, at most the answer, and up from there.
+#[tactic(auto, using(crate::proofs::Years::at_least, crate::proofs::Years::years_are))]
 fn years_gone(days: u64) -> u64
     requires { days < 1099511627776 }
-    ensures { (result ≡ years_gone days) × (result ≤ days) × (days_of result ≤ days) × (days < days_of (result + 1)) }
+    ensures value { result ≡ years_gone days }
+    ensures bound { result ≤ days }
+    ensures gone { days_of result ≤ days }
+    ensures to_come { days < days_of (result + 1) }
 {
-    let mut n = less_one(days * 400 / CYCLE);
+    let mut n = (days * 400 / CYCLE).saturating_sub(1);
+
+    // Kept: a search upward from a guess counts no range; a range's `find` would need an end, and a value for none found.
     while days_of(n + 1) <= days {
         n += 1;
     }
     n
-}
-
-fn less_one(n: u64) -> u64
-    ensures { result ≡ n - 1 }
-{
-    if n == 0 { 0 } else { n - 1 }
 }
 
 // Whether the year after n years has 366 days.
@@ -71,30 +63,29 @@ fn leap_after(n: u64) -> bool
 // The days of the first months of a year.
 fn days_before(leap: bool, months: usize) -> u64
     requires { months ≤ 12 }
-    ensures { (result ≡ days_before leap months) × (result ≤ 366) }
+    ensures value { result ≡ days_before leap months }
+    ensures bound { result ≤ 366 }
 {
-    let n = STARTS[months];
-    if leap & (2 <= months) {
-        return n + 1;
-    }
-    n
+    STARTS[months] + u64::from(leap && 2 <= months)
 }
 
 // The months that have gone by on a day of the year, counted from 0.
+#[tactic(auto, using(crate::proofs::Months::none_before, crate::proofs::Months::month_on, crate::proofs::Searching::here), unfolding(crate::specs::Calendar::months_gone))]
 fn months_gone(leap: bool, day: u64) -> usize
-    ensures { (result ≡ months_gone leap day) × (result ≤ 11) × (days_before leap result ≤ day) }
+    ensures value { result ≡ months_gone leap day }
+    ensures bound { result ≤ 11 }
+    ensures gone { days_before leap result ≤ day }
 {
-    let mut m: usize = 0;
-    while m < 11 {
+    for m in 0..11 {
         if day < days_before(leap, m + 1) {
             return m;
         }
-        m += 1;
     }
-    m
+    11
 }
 
 // The date and the time of day at an instant.
+#[tactic(auto, unfolding(crate::specs::Calendar::dated))]
 pub fn date_of(instant: u64) -> Date
     ensures { result ≡ date_of instant }
 {
@@ -116,83 +107,64 @@ pub fn date_of(instant: u64) -> Date
 }
 
 // How many days a month has.
+#[tactic(auto, using(crate::proofs::Months::month_length))]
 fn length_of(year: u64, month: u64) -> u64
     requires { (1 ≤ year) × (year ≤ 9999) × (1 ≤ month) × (month ≤ 12) }
-    ensures { (result ≡ length_of year month) × (result ≤ 366) }
+    ensures value { result ≡ length_of year month }
+    ensures bound { result ≤ 366 }
 {
     let leap = leap_after(year - 1);
     let months = month as usize;
     days_before(leap, months) - days_before(leap, months - 1)
 }
 
-// Whether the calendar has a day, in a year that four digits write.
-fn is_day(year: u64, month: u64, day: u64) -> bool
-    ensures { (result ≡ is_day year month day) × (result ≡ true → (1 ≤ year) × (year ≤ 9999) × (1 ≤ month) × (month ≤ 12) × (1 ≤ day) × (day ≤ 366)) }
-{
-    if year < 1 {
-        return false;
+impl Date {
+    // Whether the calendar has the day, in a year that four digits write.
+    fn is_day(self) -> bool
+        ensures value { result ≡ is_day self.year self.month self.day }
+        ensures bounds { result ≡ true → (1 ≤ self.year) × (self.year ≤ 9999) × (1 ≤ self.month) × (self.month ≤ 12) × (1 ≤ self.day) × (self.day ≤ 366) }
+    {
+        (1..=9999).contains(&self.year)
+            && (1..=12).contains(&self.month)
+            && (1..=length_of(self.year, self.month)).contains(&self.day)
     }
-    if 9999 < year {
-        return false;
+
+    // Whether a day has the time.
+    fn is_time(self) -> bool
+        ensures value { result ≡ is_time self.hour self.minute self.second self.milli }
+        ensures bounds { result ≡ true → (self.hour < 24) × (self.minute < 60) × (self.second < 60) × (self.milli < 1000) }
+    {
+        self.hour < 24 && self.minute < 60 && self.second < 60 && self.milli < 1000
     }
-    if month < 1 {
-        return false;
+
+    // The days from 1 January of the year 1 to the day.
+    fn days(self) -> u64
+        requires { (1 ≤ self.year) × (self.year ≤ 9999) × (1 ≤ self.month) × (self.month ≤ 12) × (1 ≤ self.day) × (self.day ≤ 366) }
+        ensures value { result ≡ days_to self.year self.month self.day }
+        ensures bound { result ≤ 4000000 }
+    {
+        let leap = leap_after(self.year - 1);
+        let months = (self.month - 1) as usize;
+        days_of(self.year - 1) + days_before(leap, months) + (self.day - 1)
     }
-    if 12 < month {
-        return false;
+
+    // The milliseconds from midnight to the time of day.
+    fn millis(self) -> u64
+        requires { (self.hour < 24) × (self.minute < 60) × (self.second < 60) × (self.milli < 1000) }
+        ensures value { result ≡ 3600000 * self.hour + 60000 * self.minute + 1000 * self.second + self.milli }
+        ensures bound { result < 86400000 }
+    {
+        3_600_000 * self.hour + 60_000 * self.minute + 1000 * self.second + self.milli
     }
-    if day < 1 {
-        return false;
-    }
-    day <= length_of(year, month)
 }
 
-// Whether a day has a time.
-fn is_time(hour: u64, minute: u64, second: u64, milli: u64) -> bool
-    ensures { (result ≡ is_time hour minute second milli) × (result ≡ true → (hour < 24) × (minute < 60) × (second < 60) × (milli < 1000)) }
+// The instant of a date and a time of day; none where there is no such day or time of day, or a year that four digits do not write.
+#[tactic(auto, unfolding(crate::specs::Calendar::instant_of))]
+pub fn instant_of(d: Date) -> Option<u64>
+    ensures { result ≡ instant_of d }
 {
-    if 24 <= hour {
-        return false;
+    if !d.is_day() || !d.is_time() {
+        return None;
     }
-    if 60 <= minute {
-        return false;
-    }
-    if 60 <= second {
-        return false;
-    }
-    milli < 1000
-}
-
-// The days from 1 January of the year 1 to a day.
-fn days_to(year: u64, month: u64, day: u64) -> u64
-    requires { (1 ≤ year) × (year ≤ 9999) × (1 ≤ month) × (month ≤ 12) × (1 ≤ day) × (day ≤ 366) }
-    ensures { (result ≡ days_to year month day) × (result ≤ 4000000) }
-{
-    let leap = leap_after(year - 1);
-    let months = (month - 1) as usize;
-    days_of(year - 1) + days_before(leap, months) + (day - 1)
-}
-
-// The milliseconds from midnight to a time of day.
-fn time_of(hour: u64, minute: u64, second: u64, milli: u64) -> u64
-    requires { (hour < 24) × (minute < 60) × (second < 60) × (milli < 1000) }
-    ensures { (result ≡ 3600000 * hour + 60000 * minute + 1000 * second + milli) × (result < 86400000) }
-{
-    3_600_000 * hour + 60_000 * minute + 1000 * second + milli
-}
-
-// The instant of a date and a time of day.
-pub fn instant_of(d: Date) -> Instant
-    ensures { told_instant result ≡ instant_of d }
-{
-    if !is_day(d.year, d.month, d.day) {
-        return Instant::Nothing;
-    }
-    if !is_time(d.hour, d.minute, d.second, d.milli) {
-        return Instant::Nothing;
-    }
-    Instant::At {
-        millis: PER_DAY * days_to(d.year, d.month, d.day)
-            + time_of(d.hour, d.minute, d.second, d.milli),
-    }
+    Some(PER_DAY * d.days() + d.millis())
 }

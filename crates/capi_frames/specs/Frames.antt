@@ -1,13 +1,9 @@
 -- The answers of one body's frame and of the parser, as structs of numbers.
-use Rattle.std.specs.Prelude.{ℕ, pos, true, false}
-use Rattle.pti.specs.declared.Parsed.{Parsed}
-use Rattle.pti.specs.declared.Parsed.TheVariants.{Frame, Nothing}
+use Rattle.std.specs.Prelude.{pos, true, false, Option, None, Some}
 use Rattle.pti.specs.declared.PtiFrame.{PtiFrame}
 use Rattle.zniffer_numbers.specs.Told.{Told, told}
-use Rattle.zniffer.specs.declared.parser.Ran.{Ran}
 use Rattle.zniffer.specs.declared.parser.Used.{Used}
 use Rattle.capi_frames.specs.declared.frames.FrameAnswer.{FrameAnswer}
-use Rattle.capi_frames.specs.declared.frames.Left.{Left}
 use Rattle.capi_frames.specs.declared.frames.ParsedBytes.{ParsedBytes}
 use Rattle.capi_frames.specs.declared.frames.ResultNumbers.{ResultNumbers}
 
@@ -40,9 +36,9 @@ no_frame =
       mpdu_len = 0;
     }
 
-abbrev pub frame_answer : Parsed → FrameAnswer
-frame_answer (Frame f) = framed f
-frame_answer Nothing = no_frame
+abbrev pub frame_answer : Option PtiFrame → FrameAnswer
+frame_answer (Some f) = framed f
+frame_answer None = no_frame
 
 -- a result's numbers: a field each of what a result is told as, in its order
 abbrev pub numbers_of : Told → ResultNumbers
@@ -60,10 +56,3 @@ numbers_of t =
 
 abbrev pub parsed_of : Used → ParsedBytes
 parsed_of u = record { result = numbers_of (told u.answer.result); used = u.used; payload = u.answer.payload }
-
-abbrev pub ran_of : Ran → Left
-ran_of r = record { parser = r.parser; out = parsed_of r.out }
-
--- a result without numbers
-abbrev pub bare_of : ℕ → ResultNumbers
-bare_of which = record { which = which; id = 0; timestamp = 0; channel = 0; speed = 0; region = 0; rssi = 0; length = 0 }

@@ -5,16 +5,16 @@ ghost use Rattle.speed.specs.Speed.{speed_for};
 ghost use Rattle.pti.specs.Frame.{frame_of};
 ghost use Rattle.zniffer_numbers.specs.Told.{told};
 ghost use Rattle.zniffer.specs.Parse.{fresh_parser, run_from};
-ghost use Rattle.capi_frames.specs.Frames.{frame_answer, no_frame, framed, bare_of, numbers_of, parsed_of, ran_of};
+ghost use Rattle.capi_frames.specs.Frames.{frame_answer, framed, numbers_of, parsed_of};
 
-use pti::{Parsed, PtiFrame};
-use zniffer::{Parser, Used};
+use pti::PtiFrame;
+use zniffer::{Answer, Parser, Ran, Used};
 use zniffer_numbers::ParserResult;
 
 // Whether the body holds a frame, and the frame: direction 0 received or 1 sent, region, channel, speed, RSSI, beam count, and
 // where its MPDU starts in the body and how many bytes it has.
 #[repr(C)]
-#[derive(Clone, Copy)]
+#[derive(Clone, Copy, Debug, Default, PartialEq, Eq)]
 pub struct FrameAnswer {
     pub is_frame: bool,
     pub direction: u8,
@@ -29,7 +29,7 @@ pub struct FrameAnswer {
 
 // A result of the parser: which (0 more bytes are wanted, 1 a command, 2 a frame, 3 the byte is bad), and its numbers.
 #[repr(C)]
-#[derive(Clone, Copy)]
+#[derive(Clone, Copy, Debug, Default, PartialEq, Eq)]
 pub struct ResultNumbers {
     pub which: u8,
     pub id: u8,
@@ -50,42 +50,21 @@ pub struct ParsedBytes {
     pub payload: [u8; 255],
 }
 
-// The parser after some bytes, and what they gave.
-#[derive(Clone, Copy)]
-struct Left {
-    pub parser: Parser,
-    pub out: ParsedBytes,
-}
+impl From<PtiFrame> for FrameAnswer {
+    ghost from_gives = { λ f r. r ≡ framed f };
 
-fn no_frame() -> FrameAnswer
-    ensures { result ≡ no_frame }
-{
-    FrameAnswer {
-        is_frame: false,
-        direction: 0,
-        region: 0,
-        channel: 0,
-        speed: 0,
-        rssi: 0,
-        beam_count: 0,
-        mpdu: 0,
-        mpdu_len: 0,
-    }
-}
-
-fn frame_numbers(f: PtiFrame) -> FrameAnswer
-    ensures { result ≡ framed f }
-{
-    FrameAnswer {
-        is_frame: true,
-        direction: f.direction,
-        region: f.region,
-        channel: f.channel,
-        speed: f.speed,
-        rssi: f.rssi,
-        beam_count: f.beam_count,
-        mpdu: f.mpdu,
-        mpdu_len: f.mpdu_len,
+    fn from(f: PtiFrame) -> FrameAnswer {
+        FrameAnswer {
+            is_frame: true,
+            direction: f.direction,
+            region: f.region,
+            channel: f.channel,
+            speed: f.speed,
+            rssi: f.rssi,
+            beam_count: f.beam_count,
+            mpdu: f.mpdu,
+            mpdu_len: f.mpdu_len,
+        }
     }
 }
 
@@ -94,90 +73,59 @@ fn frame_numbers(f: PtiFrame) -> FrameAnswer
 pub extern "C" fn zlf_frame(body: &[u8]) -> FrameAnswer
     ensures { result ≡ frame_answer (frame_of body.now) }
 {
-    let p = pti::parse_record(body);
-    let Parsed::Frame(f) = p else {
-        return no_frame();
-    };
-    frame_numbers(f)
-}
-
-// A result without numbers.
-fn bare(which: u8) -> ResultNumbers
-    ensures { result ≡ bare_of which }
-{
-    ResultNumbers {
-        which,
-        id: 0,
-        timestamp: 0,
-        channel: 0,
-        speed: 0,
-        region: 0,
-        rssi: 0,
-        length: 0,
+    match pti::parse_record(body) {
+        Some(f) => FrameAnswer::from(f),
+        None => FrameAnswer::default(),
     }
 }
 
-fn result_numbers(p: ParserResult) -> ResultNumbers
-    ensures { result ≡ numbers_of (told p) }
-{
-    match p {
-        ParserResult::IncompleteFrame => bare(0),
-        ParserResult::ValidCommand { id, length } => ResultNumbers {
-            which: 1,
-            id,
-            timestamp: 0,
-            channel: 0,
-            speed: 0,
-            region: 0,
-            rssi: 0,
-            length,
-        },
-        ParserResult::ValidFrame {
-            timestamp,
-            channel,
-            speed,
-            region,
-            rssi,
-            length,
-        } => {
-            ResultNumbers {
-                which: 2,
-                id: 0,
+// What a case of a result has no number for is 0.
+impl From<ParserResult> for ResultNumbers {
+    ghost from_gives = { λ p r. r ≡ numbers_of (told p) };
+
+    fn from(p: ParserResult) -> ResultNumbers {
+        let bare = ResultNumbers::default();
+        match p {
+            ParserResult::IncompleteFrame => bare,
+            ParserResult::ValidCommand { id, length } => ResultNumbers {
+                which: 1,
+                id,
+                length,
+                ..bare
+            },
+            ParserResult::ValidFrame {
                 timestamp,
                 channel,
                 speed,
                 region,
                 rssi,
                 length,
-            }
+            } => ResultNumbers {
+                which: 2,
+                timestamp,
+                channel,
+                speed,
+                region,
+                rssi,
+                length,
+                ..bare
+            },
+            ParserResult::InvalidFrame => ResultNumbers { which: 3, ..bare },
         }
-        ParserResult::InvalidFrame => bare(3),
     }
 }
 
-fn used_numbers(u: Used) -> ParsedBytes
-    ensures { result ≡ parsed_of u }
-{
-    let answer = u.answer;
-    let payload = answer.payload;
-    let p = answer.result;
-    let result = result_numbers(p);
-    ParsedBytes {
-        result,
-        used: u.used,
-        payload,
-    }
-}
+impl From<Used> for ParsedBytes {
+    ghost from_gives = { λ u r. r ≡ parsed_of u };
 
-// Some bytes, at any parser, by value.
-fn ran(p: Parser, input: &[u8]) -> Left
-    ensures { result ≡ ran_of (run_from 0 input.now p) }
-{
-    let t = zniffer::run(p, input);
-    let parser = t.parser;
-    let used = t.out;
-    let out = used_numbers(used);
-    Left { parser, out }
+    fn from(u: Used) -> ParsedBytes {
+        let Answer { result, payload } = u.answer;
+        ParsedBytes {
+            result: ResultNumbers::from(result),
+            used: u.used,
+            payload,
+        }
+    }
 }
 
 // A fresh parser.
@@ -193,9 +141,9 @@ pub extern "C" fn zlf_fresh() -> Parser
 pub extern "C" fn zlf_parse(p: &mut Parser, input: &[u8]) -> ParsedBytes
     ensures { (p.new ≡ (run_from 0 input.now p.old).parser) × (result ≡ parsed_of (run_from 0 input.now p.old).out) }
 {
-    let t = ran(*p, input);
-    *p = t.parser;
-    t.out
+    let Ran { parser, out } = zniffer::run(*p, input);
+    *p = parser;
+    ParsedBytes::from(out)
 }
 
 // The milliseconds since the Unix epoch that a stored time stands for.

@@ -1,14 +1,14 @@
 // A page into a lent table of rows, and the seam check.
-ghost use Rattle.std.specs.Prelude.{◌≡◌, false, length};
-ghost use Rattle.std.proofs.Math.Option.{none};
+ghost use Rattle.std.specs.Prelude.{◌≡◌, length, None};
 ghost use Rattle.record.specs.Record.{plausible};
 ghost use Rattle.paging.specs.Page.{page_at, told_page};
 ghost use Rattle.seam.specs.Seam.{seam_at, told_seam};
 ghost use Rattle.capi_pages.specs.Pages.{page_told, Paged, seam_told};
 
-use paging::Page;
+use layout::{Refusal, Trace};
+use paging::{Page, PageError};
 use rows::Row;
-use seam::Seam;
+use seam::{Seam, SeamError};
 
 // The refusal's number or 0, where the page started, how many rows it wrote, whether a next place is named, and that place.
 #[repr(C)]
@@ -32,39 +32,44 @@ pub struct SeamAnswer {
     pub records: usize,
 }
 
-fn no_page(refusal: u32) -> PageAnswer
-    ensures { page_told result ≡ record { refusal = refusal; start = 0; size = 0; is_more = false; next = 0 } }
-{
-    PageAnswer {
-        refusal,
-        start: 0,
-        size: 0,
-        is_more: false,
-        next: 0,
+impl From<Result<Page, PageError>> for PageAnswer {
+    ghost from_gives = { λ page answer. page_told answer ≡ told_page page };
+
+    fn from(page: Result<Page, PageError>) -> Self {
+        match page {
+            Ok(page) => PageAnswer {
+                refusal: 0,
+                start: page.start,
+                size: page.size,
+                is_more: page.next.is_some(),
+                next: page.next.unwrap_or(0),
+            },
+            Err(refusal) => PageAnswer {
+                refusal: refusal.number(),
+                start: 0,
+                size: 0,
+                is_more: false,
+                next: 0,
+            },
+        }
     }
 }
 
-fn page_numbers(p: Page) -> PageAnswer
-    ensures { page_told result ≡ told_page p }
-{
-    match p {
-        Page::More { start, size, next } => PageAnswer {
-            refusal: 0,
-            start,
-            size,
-            is_more: true,
-            next,
-        },
-        Page::Last { start, size } => PageAnswer {
-            refusal: 0,
-            start,
-            size,
-            is_more: false,
-            next: 0,
-        },
-        Page::TraceTooLong => no_page(1),
-        Page::WindowTooLong => no_page(5),
-        Page::TableTooShort => no_page(7),
+impl From<Result<Seam, SeamError>> for SeamAnswer {
+    ghost from_gives = { λ seam answer. seam_told answer ≡ told_seam seam };
+
+    fn from(seam: Result<Seam, SeamError>) -> Self {
+        let (refusal, is_unbroken, place, records) = match seam {
+            Ok(Seam::Unbroken { records }) => (0, true, 0, records),
+            Ok(Seam::Broken { place, records }) => (0, false, place, records),
+            Err(refusal) => (refusal.number(), false, 0, 0),
+        };
+        SeamAnswer {
+            refusal,
+            is_unbroken,
+            place,
+            records,
+        }
     }
 }
 
@@ -77,41 +82,13 @@ pub extern "C" fn zlf_page(
     count: usize,
     table: &mut [Row],
 ) -> PageAnswer
-    ensures { Paged (page_at plausible kinds.now trace.now none offset count (length table.old)) result table.old table.new }
+    ensures { Paged (page_at plausible kinds.now trace.now None offset count (length table.old)) result table.old table.new }
 {
-    let p = cursor::frames_at(kinds, trace, offset, count, table);
-    page_numbers(p)
-}
-
-fn seam_numbers(s: Seam) -> SeamAnswer
-    ensures { seam_told result ≡ told_seam s }
-{
-    match s {
-        Seam::Unbroken { records } => SeamAnswer {
-            refusal: 0,
-            is_unbroken: true,
-            place: 0,
-            records,
-        },
-        Seam::Broken { place, records } => SeamAnswer {
-            refusal: 0,
-            is_unbroken: false,
-            place,
-            records,
-        },
-        Seam::TraceTooLong => SeamAnswer {
-            refusal: 1,
-            is_unbroken: false,
-            place: 0,
-            records: 0,
-        },
-        Seam::PlaceOutside => SeamAnswer {
-            refusal: 6,
-            is_unbroken: false,
-            place: 0,
-            records: 0,
-        },
-    }
+    let trace = Trace {
+        kinds,
+        bytes: trace,
+    };
+    cursor::frames_at(trace, offset, count, table).into()
 }
 
 // Whether valid records follow one another from a place to the trace's end, and how many.
@@ -119,6 +96,9 @@ fn seam_numbers(s: Seam) -> SeamAnswer
 pub extern "C" fn zlf_seam(kinds: &[u8; 256], trace: &[u8], place: usize) -> SeamAnswer
     ensures { seam_told result ≡ seam_at plausible kinds.now trace.now place }
 {
-    let s = seam::seam_check(kinds, trace, place);
-    seam_numbers(s)
+    let trace = Trace {
+        kinds,
+        bytes: trace,
+    };
+    seam::seam_check(trace, place).into()
 }

@@ -2,11 +2,12 @@
 ghost use Rattle.std.specs.Prelude.{◌≡◌};
 ghost use Rattle.seam.specs.Opening.{opening_of, told_opening as toldCursor};
 ghost use Rattle.reader.specs.Opening.{opened, told_opening as toldReader};
-ghost use Rattle.reader.specs.Next.{no_record, record_of, next_of, told_next};
+ghost use Rattle.reader.specs.Next.{no_record, next_of, told_next};
 ghost use Rattle.capi_records.specs.Opens.{opening_told, sequence_told, next_told, reader_at};
 
-use reader::{Next, Opening as Sequence, ZlfReader, ZlfRecord};
-use seam::Opening;
+use layout::{Refusal, Trace};
+use reader::{Next, OpenError as SequenceError, Opened, ReadError, ZlfReader};
+use seam::OpenError;
 
 // The refusal's number or 0, and the version found.
 #[repr(C)]
@@ -29,7 +30,7 @@ pub struct SequenceOpening {
 // The refusal's number or 0, whether there is a record, its parts, the negative length of refusal 8, and the reader's place and
 // count afterwards.
 #[repr(C)]
-#[derive(Clone, Copy)]
+#[derive(Clone, Copy, Default)]
 pub struct NextRecord {
     pub refusal: u32,
     pub is_record: bool,
@@ -46,26 +47,23 @@ pub struct NextRecord {
     pub count: u64,
 }
 
-fn cursor_numbers(o: Opening) -> CursorOpening
-    ensures { opening_told result ≡ toldCursor o }
-{
-    match o {
-        Opening::Opened { version } => CursorOpening {
-            refusal: 0,
-            version,
-        },
-        Opening::TraceTooLong => CursorOpening {
-            refusal: 1,
-            version: 0,
-        },
-        Opening::TraceTooShort => CursorOpening {
-            refusal: 2,
-            version: 0,
-        },
-        Opening::OtherVersion { version } => CursorOpening {
-            refusal: 4,
-            version,
-        },
+impl From<Result<u32, OpenError>> for CursorOpening {
+    ghost from_gives = { λ opening answer. opening_told answer ≡ toldCursor opening };
+
+    fn from(opening: Result<u32, OpenError>) -> Self {
+        match opening {
+            Ok(version) => CursorOpening {
+                refusal: 0,
+                version,
+            },
+            Err(error) => CursorOpening {
+                refusal: error.number(),
+                version: match error {
+                    OpenError::OtherVersion { version } => version,
+                    _ => 0,
+                },
+            },
+        }
     }
 }
 
@@ -74,36 +72,30 @@ fn cursor_numbers(o: Opening) -> CursorOpening
 pub extern "C" fn zlf_open(trace: &[u8], version: u32) -> CursorOpening
     ensures { opening_told result ≡ opening_of trace.now version }
 {
-    let o = seam::open(trace, version);
-    cursor_numbers(o)
+    seam::open(trace, version).into()
 }
 
-// No reader.
-fn not_opened(refusal: u32, version: u32) -> SequenceOpening
-    ensures { sequence_told result ≡ record { refusal = refusal; version = version; place = 0; count = 0 } }
-{
-    SequenceOpening {
-        refusal,
-        version,
-        place: 0,
-        count: 0,
-    }
-}
+impl From<Result<Opened, SequenceError>> for SequenceOpening {
+    ghost from_gives = { λ opening answer. sequence_told answer ≡ toldReader opening };
 
-fn sequence_numbers(o: Sequence) -> SequenceOpening
-    ensures { sequence_told result ≡ toldReader o }
-{
-    match o {
-        Sequence::Opened { version, reader } => SequenceOpening {
-            refusal: 0,
-            version,
-            place: reader.place,
-            count: reader.count,
-        },
-        Sequence::TraceTooLong => not_opened(1, 0),
-        Sequence::TraceTooShort => not_opened(2, 0),
-        Sequence::InvalidHeaderChecksum => not_opened(3, 0),
-        Sequence::InvalidZlfVersion { version } => not_opened(4, version),
+    fn from(opening: Result<Opened, SequenceError>) -> Self {
+        match opening {
+            Ok(Opened { version, reader }) => SequenceOpening {
+                refusal: 0,
+                version,
+                place: reader.place,
+                count: reader.count,
+            },
+            Err(refusal) => SequenceOpening {
+                refusal: refusal.number(),
+                version: match refusal {
+                    SequenceError::InvalidZlfVersion { version } => version,
+                    _ => 0,
+                },
+                place: 0,
+                count: 0,
+            },
+        }
     }
 }
 
@@ -112,28 +104,7 @@ fn sequence_numbers(o: Sequence) -> SequenceOpening
 pub extern "C" fn zlf_open_sequence(trace: &[u8], version: u32) -> SequenceOpening
     ensures { sequence_told result ≡ opened trace.now version }
 {
-    let o = ZlfReader::new(trace, version);
-    sequence_numbers(o)
-}
-
-fn record_numbers(h: ZlfRecord, reader: ZlfReader) -> NextRecord
-    ensures { next_told result ≡ record_of h.offset h.raw_ticks h.is_outcome h.session_id h.end h.kind h.payload_offset h.payload_len reader }
-{
-    NextRecord {
-        refusal: 0,
-        is_record: true,
-        offset: h.offset,
-        ticks: h.raw_ticks,
-        outgoing: h.is_outcome,
-        session: h.session_id,
-        end_byte: h.end,
-        kind: h.kind,
-        payload: h.payload_offset,
-        size: h.payload_len,
-        negative: 0,
-        place: reader.place,
-        count: reader.count,
-    }
+    ZlfReader::new(trace, version).into()
 }
 
 // No record, and the reader as it was given.
@@ -142,31 +113,40 @@ fn no_record(refusal: u32, negative: i32, reader: ZlfReader) -> NextRecord
 {
     NextRecord {
         refusal,
-        is_record: false,
-        offset: 0,
-        ticks: 0,
-        outgoing: false,
-        session: 0,
-        end_byte: 0,
-        kind: 0,
-        payload: 0,
-        size: 0,
         negative,
         place: reader.place,
         count: reader.count,
+        ..NextRecord::default()
     }
 }
 
-fn next_numbers(n: Next) -> NextRecord
-    ensures { next_told result ≡ told_next n }
+fn next_numbers(reader: ZlfReader, next: Result<Option<Next>, ReadError>) -> NextRecord
+    ensures { next_told result ≡ told_next reader next }
 {
-    match n {
-        Next::Record { header, reader } => record_numbers(header, reader),
-        Next::End { reader } => no_record(0, 0, reader),
-        Next::TraceTooLong { reader } => no_record(1, 0, reader),
-        Next::InvalidPayloadLength { length, reader } => no_record(8, length, reader),
-        Next::EofInHead { reader } => no_record(9, 0, reader),
-        Next::EofInPayload { reader } => no_record(10, 0, reader),
+    match next {
+        Ok(Some(Next { record, reader })) => NextRecord {
+            refusal: 0,
+            is_record: true,
+            offset: record.offset,
+            ticks: record.raw_ticks,
+            outgoing: record.is_outcome,
+            session: record.session_id,
+            end_byte: record.end,
+            kind: record.kind,
+            payload: record.payload_offset,
+            size: record.payload_len,
+            negative: 0,
+            place: reader.place,
+            count: reader.count,
+        },
+        Ok(None) => no_record(0, 0, reader),
+        Err(refusal) => {
+            let negative = match refusal {
+                ReadError::InvalidPayloadLength { length } => length,
+                _ => 0,
+            };
+            no_record(refusal.number(), negative, reader)
+        }
     }
 }
 
@@ -176,6 +156,11 @@ pub extern "C" fn zlf_next(kinds: &[u8; 256], trace: &[u8], place: usize, count:
     ensures { next_told result ≡ next_of kinds.now trace.now (reader_at place count) }
 {
     let reader = ZlfReader { place, count };
-    let n = reader.next_record(kinds, trace);
-    next_numbers(n)
+    next_numbers(
+        reader,
+        reader.next_record(Trace {
+            kinds,
+            bytes: trace,
+        }),
+    )
 }

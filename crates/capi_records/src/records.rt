@@ -1,17 +1,17 @@
 // The record at an offset, and the search for a boundary.
 ghost use Rattle.std.specs.Prelude.{◌≡◌};
-ghost use Rattle.record.specs.Record.{plausible, no_record, record_at, told_record};
+ghost use Rattle.record.specs.Record.{plausible, record_at, told_record};
 ghost use Rattle.resync.specs.Search.{search_from, told_search};
-ghost use Rattle.record.specs.declared.Record.TheVariants.{Valid};
 ghost use Rattle.capi_records.specs.Records.{record_told, search_told};
 
-use record::{Record, RecordHeader};
-use resync::Search;
+use layout::{Refusal, Trace, TraceTooLong};
+use record::RecordHeader;
+use resync::{Search, SearchError};
 
 // The refusal's number or 0, whether the record is valid, its fields, the offset after it, and its time in milliseconds, which is
 // after 2000 and so unsigned.
 #[repr(C)]
-#[derive(Clone, Copy)]
+#[derive(Clone, Copy, Default)]
 pub struct RecordAnswer {
     pub refusal: u32,
     pub is_valid: bool,
@@ -36,50 +36,30 @@ pub struct SearchAnswer {
     pub judged: usize,
 }
 
-fn header_numbers(h: RecordHeader) -> RecordAnswer
-    ensures { record_told result ≡ told_record (Valid h) }
-{
-    RecordAnswer {
-        refusal: 0,
-        is_valid: true,
-        offset: h.offset,
-        ticks: h.raw_ticks,
-        outgoing: h.is_outcome,
-        session: h.session_id,
-        size: h.payload_len,
-        end_byte: h.end,
-        kind: h.kind,
-        next: h.next_offset,
-        millis: h.unix_millis,
-    }
-}
+impl From<Result<Option<RecordHeader>, TraceTooLong>> for RecordAnswer {
+    ghost from_gives = { λ found answer. record_told answer ≡ told_record found };
 
-// No valid record.
-fn absent(refusal: u32) -> RecordAnswer
-    ensures { record_told result ≡ no_record refusal }
-{
-    RecordAnswer {
-        refusal,
-        is_valid: false,
-        offset: 0,
-        ticks: 0,
-        outgoing: false,
-        session: 0,
-        size: 0,
-        end_byte: 0,
-        kind: 0,
-        next: 0,
-        millis: 0,
-    }
-}
-
-fn record_numbers(a: Record) -> RecordAnswer
-    ensures { record_told result ≡ told_record a }
-{
-    match a {
-        Record::Valid { header } => header_numbers(header),
-        Record::Absent => absent(0),
-        Record::TraceTooLong => absent(1),
+    fn from(found: Result<Option<RecordHeader>, TraceTooLong>) -> Self {
+        match found {
+            Ok(Some(header)) => RecordAnswer {
+                refusal: 0,
+                is_valid: true,
+                offset: header.offset,
+                ticks: header.raw_ticks,
+                outgoing: header.is_outcome,
+                session: header.session_id,
+                size: header.payload_len,
+                end_byte: header.end,
+                kind: header.kind,
+                next: header.next_offset,
+                millis: header.unix_millis,
+            },
+            Ok(None) => RecordAnswer::default(),
+            Err(error) => RecordAnswer {
+                refusal: error.number(),
+                ..RecordAnswer::default()
+            },
+        }
     }
 }
 
@@ -88,38 +68,31 @@ fn record_numbers(a: Record) -> RecordAnswer
 pub extern "C" fn zlf_record(kinds: &[u8; 256], trace: &[u8], offset: usize) -> RecordAnswer
     ensures { record_told result ≡ record_at plausible kinds.now trace.now offset }
 {
-    let a = record::read_record(kinds, trace, offset);
-    record_numbers(a)
+    let trace = Trace {
+        kinds,
+        bytes: trace,
+    };
+    record::read_record(trace, offset).into()
 }
 
-fn search_numbers(a: Search) -> SearchAnswer
-    ensures { search_told result ≡ told_search a }
-{
-    match a {
-        Search::Found { offset, judged } => SearchAnswer {
-            refusal: 0,
-            is_found: true,
-            offset,
-            judged,
-        },
-        Search::Nothing { judged } => SearchAnswer {
-            refusal: 0,
-            is_found: false,
-            offset: 0,
-            judged,
-        },
-        Search::TraceTooLong => SearchAnswer {
-            refusal: 1,
-            is_found: false,
-            offset: 0,
-            judged: 0,
-        },
-        Search::WindowTooLong => SearchAnswer {
-            refusal: 5,
-            is_found: false,
-            offset: 0,
-            judged: 0,
-        },
+impl From<Result<Search, SearchError>> for SearchAnswer {
+    ghost from_gives = { λ search answer. search_told answer ≡ told_search search };
+
+    fn from(search: Result<Search, SearchError>) -> Self {
+        match search {
+            Ok(search) => SearchAnswer {
+                refusal: 0,
+                is_found: search.offset.is_some(),
+                offset: search.offset.unwrap_or(0),
+                judged: search.judged,
+            },
+            Err(refusal) => SearchAnswer {
+                refusal: refusal.number(),
+                is_found: false,
+                offset: 0,
+                judged: 0,
+            },
+        }
     }
 }
 
@@ -133,6 +106,9 @@ pub extern "C" fn zlf_search(
 ) -> SearchAnswer
     ensures { search_told result ≡ search_from plausible kinds.now trace.now from window }
 {
-    let a = resync::next_record_at(kinds, trace, from, window);
-    search_numbers(a)
+    let trace = Trace {
+        kinds,
+        bytes: trace,
+    };
+    resync::next_record_at(trace, from, window).into()
 }

@@ -1,20 +1,21 @@
 // The span, the whole seek, the plain seek and the stepped seek.
-ghost use Rattle.std.specs.Prelude.{◌≡◌, false};
+ghost use Rattle.std.specs.Prelude.{◌≡◌};
 ghost use Rattle.record.specs.Record.{plausible};
 ghost use Rattle.span.specs.Met.{trace_of};
 ghost use Rattle.span.specs.Span.{span_of, told_span};
-ghost use Rattle.seek.specs.Seek.{seek_of, told_seek, told_found};
-ghost use Rattle.seek.specs.Step.{told_state, no_state, start_at, told_start, step_at, told_step, done};
+ghost use Rattle.seek.specs.Seek.{seek_of, told_seek};
+ghost use Rattle.seek.specs.Step.{told_state, start_at, told_start, step_at, told_step};
 ghost use Rattle.plain.specs.Plain.{plain_of, told_plain};
 ghost use Rattle.capi_seeks.specs.Seeks.{span_told, seek_told, plain_told, state_told, state_of, start_told, step_told};
 
-use plain::PlainSeek;
-use seek::{Found, SeekStart, SeekState, SeekStep, SeekTime};
+use layout::{Refusal, Trace, TraceTooLong};
+use resync::SearchError;
+use seek::{SeekState, SeekStep, SeekTime};
 use span::Span;
 
 // The refusal's number or 0, whether there is a span, and the two times in milliseconds, which are after 2000 and so unsigned.
 #[repr(C)]
-#[derive(Clone, Copy)]
+#[derive(Clone, Copy, Debug, Default, PartialEq, Eq)]
 pub struct SpanAnswer {
     pub refusal: u32,
     pub is_found: bool,
@@ -24,7 +25,7 @@ pub struct SpanAnswer {
 
 // The refusal's number or 0, whether a record was found, its offset, and the number of halvings.
 #[repr(C)]
-#[derive(Clone, Copy)]
+#[derive(Clone, Copy, Debug, Default, PartialEq, Eq)]
 pub struct SeekAnswer {
     pub refusal: u32,
     pub is_found: bool,
@@ -34,7 +35,7 @@ pub struct SeekAnswer {
 
 // The refusal's number or 0, whether a record was found, and its offset.
 #[repr(C)]
-#[derive(Clone, Copy)]
+#[derive(Clone, Copy, Debug, Default, PartialEq, Eq)]
 pub struct PlainAnswer {
     pub refusal: u32,
     pub is_found: bool,
@@ -43,7 +44,7 @@ pub struct PlainAnswer {
 
 // A state of the stepped seek: searching between lo and hi, or scanning from a place.
 #[repr(C)]
-#[derive(Clone, Copy)]
+#[derive(Clone, Copy, Debug, Default, PartialEq, Eq)]
 pub struct State {
     pub searching: bool,
     pub lo: usize,
@@ -53,7 +54,7 @@ pub struct State {
 
 // The refusal's number or 0, and the state to start from.
 #[repr(C)]
-#[derive(Clone, Copy)]
+#[derive(Clone, Copy, Debug, Default, PartialEq, Eq)]
 pub struct StartAnswer {
     pub refusal: u32,
     pub state: State,
@@ -62,7 +63,7 @@ pub struct StartAnswer {
 // The refusal's number or 0, the answer (1 more, 2 scan, 3 done), the state to pass back, and of done whether a record was found
 // and its offset.
 #[repr(C)]
-#[derive(Clone, Copy)]
+#[derive(Clone, Copy, Debug, Default, PartialEq, Eq)]
 pub struct StepAnswer {
     pub refusal: u32,
     pub answer: u32,
@@ -71,28 +72,23 @@ pub struct StepAnswer {
     pub offset: usize,
 }
 
-fn span_numbers(s: Span) -> SpanAnswer
-    ensures { span_told result ≡ told_span s }
-{
-    match s {
-        Span::Times { first, last } => SpanAnswer {
-            refusal: 0,
-            is_found: true,
-            first,
-            last,
-        },
-        Span::Nothing => SpanAnswer {
-            refusal: 0,
-            is_found: false,
-            first: 0,
-            last: 0,
-        },
-        Span::TraceTooLong => SpanAnswer {
-            refusal: 1,
-            is_found: false,
-            first: 0,
-            last: 0,
-        },
+impl From<Result<Option<Span>, TraceTooLong>> for SpanAnswer {
+    ghost from_gives = { λ s r. span_told r ≡ told_span s };
+
+    fn from(s: Result<Option<Span>, TraceTooLong>) -> SpanAnswer {
+        match s {
+            Ok(Some(Span { first, last })) => SpanAnswer {
+                refusal: 0,
+                is_found: true,
+                first,
+                last,
+            },
+            Ok(None) => SpanAnswer::default(),
+            Err(refusal) => SpanAnswer {
+                refusal: refusal.number(),
+                ..SpanAnswer::default()
+            },
+        }
     }
 }
 
@@ -101,32 +97,29 @@ fn span_numbers(s: Span) -> SpanAnswer
 pub extern "C" fn zlf_span(kinds: &[u8; 256], trace: &[u8]) -> SpanAnswer
     ensures { span_told result ≡ span_of (trace_of plausible kinds.now trace.now) }
 {
-    let s = span::time_span(kinds, trace);
-    span_numbers(s)
+    let trace = Trace {
+        kinds,
+        bytes: trace,
+    };
+    span::time_span(trace).into()
 }
 
-fn seek_numbers(s: SeekTime) -> SeekAnswer
-    ensures { seek_told result ≡ told_seek s }
-{
-    match s {
-        SeekTime::Found { offset, halvings } => SeekAnswer {
-            refusal: 0,
-            is_found: true,
-            offset,
-            halvings,
-        },
-        SeekTime::Nothing { halvings } => SeekAnswer {
-            refusal: 0,
-            is_found: false,
-            offset: 0,
-            halvings,
-        },
-        SeekTime::TraceTooLong => SeekAnswer {
-            refusal: 1,
-            is_found: false,
-            offset: 0,
-            halvings: 0,
-        },
+impl From<Result<SeekTime, TraceTooLong>> for SeekAnswer {
+    ghost from_gives = { λ s r. seek_told r ≡ told_seek s };
+
+    fn from(s: Result<SeekTime, TraceTooLong>) -> SeekAnswer {
+        match s {
+            Ok(SeekTime { offset, halvings }) => SeekAnswer {
+                refusal: 0,
+                is_found: offset.is_some(),
+                offset: offset.unwrap_or(0),
+                halvings,
+            },
+            Err(refusal) => SeekAnswer {
+                refusal: refusal.number(),
+                ..SeekAnswer::default()
+            },
+        }
     }
 }
 
@@ -135,29 +128,28 @@ fn seek_numbers(s: SeekTime) -> SeekAnswer
 pub extern "C" fn zlf_seek(kinds: &[u8; 256], trace: &[u8], time: i64) -> SeekAnswer
     ensures { seek_told result ≡ seek_of (trace_of plausible kinds.now trace.now) time }
 {
-    let s = seek::seek_time(kinds, trace, time);
-    seek_numbers(s)
+    let trace = Trace {
+        kinds,
+        bytes: trace,
+    };
+    seek::seek_time(trace, time).into()
 }
 
-fn plain_numbers(s: PlainSeek) -> PlainAnswer
-    ensures { plain_told result ≡ told_plain s }
-{
-    match s {
-        PlainSeek::Found { offset } => PlainAnswer {
-            refusal: 0,
-            is_found: true,
-            offset,
-        },
-        PlainSeek::Nothing => PlainAnswer {
-            refusal: 0,
-            is_found: false,
-            offset: 0,
-        },
-        PlainSeek::TraceTooLong => PlainAnswer {
-            refusal: 1,
-            is_found: false,
-            offset: 0,
-        },
+impl From<Result<Option<usize>, TraceTooLong>> for PlainAnswer {
+    ghost from_gives = { λ s r. plain_told r ≡ told_plain s };
+
+    fn from(s: Result<Option<usize>, TraceTooLong>) -> PlainAnswer {
+        match s {
+            Ok(found) => PlainAnswer {
+                refusal: 0,
+                is_found: found.is_some(),
+                offset: found.unwrap_or(0),
+            },
+            Err(refusal) => PlainAnswer {
+                refusal: refusal.number(),
+                ..PlainAnswer::default()
+            },
+        }
     }
 }
 
@@ -166,55 +158,46 @@ fn plain_numbers(s: PlainSeek) -> PlainAnswer
 pub extern "C" fn zlf_plain_seek(kinds: &[u8; 256], trace: &[u8], time: i64) -> PlainAnswer
     ensures { plain_told result ≡ plain_of (trace_of plausible kinds.now trace.now) time }
 {
-    let s = plain::plain_seek(kinds, trace, time);
-    plain_numbers(s)
-}
-
-fn state_numbers(s: SeekState) -> State
-    ensures { state_told result ≡ told_state s }
-{
-    match s {
-        SeekState::Searching { lo, hi } => State {
-            searching: true,
-            lo,
-            hi,
-            at: 0,
-        },
-        SeekState::Scanning { at } => State {
-            searching: false,
-            lo: 0,
-            hi: 0,
-            at,
-        },
-    }
-}
-
-// No state.
-fn no_state() -> State
-    ensures { state_told result ≡ no_state }
-{
-    State {
-        searching: false,
-        lo: 0,
-        hi: 0,
-        at: 0,
-    }
-}
-
-fn start_numbers(s: SeekStart) -> StartAnswer
-    ensures { start_told result ≡ told_start s }
-{
-    let SeekStart::From { state } = s else {
-        let none = no_state();
-        return StartAnswer {
-            refusal: 1,
-            state: none,
-        };
+    let trace = Trace {
+        kinds,
+        bytes: trace,
     };
-    let numbers = state_numbers(state);
-    StartAnswer {
-        refusal: 0,
-        state: numbers,
+    plain::plain_seek(trace, time).into()
+}
+
+impl From<SeekState> for State {
+    ghost from_gives = { λ s r. state_told r ≡ told_state s };
+
+    fn from(s: SeekState) -> State {
+        match s {
+            SeekState::Searching { lo, hi } => State {
+                searching: true,
+                lo,
+                hi,
+                at: 0,
+            },
+            SeekState::Scanning { at } => State {
+                at,
+                ..State::default()
+            },
+        }
+    }
+}
+
+impl From<Result<SeekState, TraceTooLong>> for StartAnswer {
+    ghost from_gives = { λ s r. start_told r ≡ told_start s };
+
+    fn from(s: Result<SeekState, TraceTooLong>) -> StartAnswer {
+        match s {
+            Ok(state) => StartAnswer {
+                refusal: 0,
+                state: state.into(),
+            },
+            Err(refusal) => StartAnswer {
+                refusal: refusal.number(),
+                ..StartAnswer::default()
+            },
+        }
     }
 }
 
@@ -223,66 +206,51 @@ fn start_numbers(s: SeekStart) -> StartAnswer
 pub extern "C" fn zlf_seek_start(kinds: &[u8; 256], trace: &[u8]) -> StartAnswer
     ensures { start_told result ≡ start_at (trace_of plausible kinds.now trace.now) }
 {
-    let s = seek::seek_start(kinds, trace);
-    start_numbers(s)
+    let trace = Trace {
+        kinds,
+        bytes: trace,
+    };
+    seek::seek_start(trace).into()
 }
 
 // The state that a caller passes back.
-fn state_of(s: State) -> SeekState
-    ensures { result ≡ state_of s }
-{
-    if s.searching {
-        return SeekState::Searching { lo: s.lo, hi: s.hi };
-    }
-    SeekState::Scanning { at: s.at }
-}
+impl From<State> for SeekState {
+    ghost from_gives = { λ s r. r ≡ state_of s };
 
-// The step goes on, from a state.
-fn going_on(answer: u32, s: SeekState) -> StepAnswer
-    ensures { step_told result ≡ record { refusal = 0; answer = answer; state = told_state s; is_found = false; offset = 0 } }
-{
-    let state = state_numbers(s);
-    StepAnswer {
-        refusal: 0,
-        answer,
-        state,
-        is_found: false,
-        offset: 0,
+    fn from(s: State) -> SeekState {
+        if s.searching {
+            return SeekState::Searching { lo: s.lo, hi: s.hi };
+        }
+        SeekState::Scanning { at: s.at }
     }
 }
 
-// The step is the last one, or is refused.
-fn ended(refusal: u32, answer: u32, is_found: bool, offset: usize) -> StepAnswer
-    ensures { step_told result ≡ record { refusal = refusal; answer = answer; state = no_state; is_found = is_found; offset = offset } }
-{
-    let state = no_state();
-    StepAnswer {
-        refusal,
-        answer,
-        state,
-        is_found,
-        offset,
-    }
-}
+impl From<Result<SeekStep, SearchError>> for StepAnswer {
+    ghost from_gives = { λ s r. step_told r ≡ told_step s };
 
-fn found_numbers(f: Found) -> StepAnswer
-    ensures { step_told result ≡ done (told_found f) }
-{
-    match f {
-        Found::At { offset } => ended(0, 3, true, offset),
-        Found::Nothing => ended(0, 3, false, 0),
-    }
-}
-
-fn step_numbers(s: SeekStep) -> StepAnswer
-    ensures { step_told result ≡ told_step s }
-{
-    match s {
-        SeekStep::More { state } => going_on(1, state),
-        SeekStep::Scan { state } => going_on(2, state),
-        SeekStep::Done { found } => found_numbers(found),
-        SeekStep::TraceTooLong => ended(1, 0, false, 0),
-        SeekStep::WindowTooLong => ended(5, 0, false, 0),
+    fn from(s: Result<SeekStep, SearchError>) -> StepAnswer {
+        match s {
+            Ok(SeekStep::More { state }) => StepAnswer {
+                answer: 1,
+                state: state.into(),
+                ..StepAnswer::default()
+            },
+            Ok(SeekStep::Scan { state }) => StepAnswer {
+                answer: 2,
+                state: state.into(),
+                ..StepAnswer::default()
+            },
+            Ok(SeekStep::Done { found }) => StepAnswer {
+                answer: 3,
+                is_found: found.is_some(),
+                offset: found.unwrap_or(0),
+                ..StepAnswer::default()
+            },
+            Err(refusal) => StepAnswer {
+                refusal: refusal.number(),
+                ..StepAnswer::default()
+            },
+        }
     }
 }
 
@@ -296,7 +264,9 @@ pub extern "C" fn zlf_seek_step(
 ) -> StepAnswer
     ensures { step_told result ≡ step_at (trace_of plausible kinds.now trace.now) time (state_of state) }
 {
-    let from = state_of(state);
-    let s = seek::seek_step(kinds, trace, time, from);
-    step_numbers(s)
+    let trace = Trace {
+        kinds,
+        bytes: trace,
+    };
+    seek::seek_step(trace, time, state.into()).into()
 }

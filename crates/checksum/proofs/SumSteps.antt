@@ -1,10 +1,7 @@
 -- More bytes of a list, one byte more, and none. Assumes nothing.
-use Prim.Native.Nat.{ℕ, ◌+◌, ◌≤◌, ◌<◌}
-use lib.ListN.{length, get_or, take, drop, take-append-drop, drop_of_length-le}
-use lib.Seq.{drop-cons, drop-drop}
-use mathlib.Core.List.{List, [], ◌∷◌, ◌++◌}
-use mathlib.Core.Path.{◌≡◌, refl, sym, ap, ◌∙◌}
-use native.Mathlib.Numerals.{add-one}
+use Rattle.std.proofs.Common.{◌≡◌, ℕ, ◌+◌, ◌≤◌, ◌<◌, List, [], ◌∷◌, ◌++◌, length, get_or, take, drop, refl, sym, ap, ◌∙◌}
+use Rattle.std.proofs.Math.ListN.{drop_of_length-le}
+use Rattle.std.proofs.lemmas.List.{drop-drop, take-append-drop, at_drop_more}
 use Rattle.checksum.specs.Sum.{sum_byte, sum_from}
 
 -- the bytes of one list, then those of another
@@ -24,7 +21,7 @@ bytes_more n sum bytes i =
 pub byte_more : (sum : ℕ) (bytes : List ℕ) (i : ℕ) → i < length bytes
     → sum_from (sum_byte sum (get_or bytes i 0)) (drop (i + 1) bytes) ≡ sum_from sum (drop i bytes)
 unfolding sum_from
-byte_more sum bytes i h = rw (add-one, drop-cons bytes i 0)
+byte_more sum bytes i h = sym (at_drop_more (sum_from sum) bytes i 0 h)
 
 -- no byte more
 pub bytes_done : (sum : ℕ) (bytes : List ℕ) (i : ℕ) → length bytes ≤ i → sum_from sum (drop i bytes) ≡ sum

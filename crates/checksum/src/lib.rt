@@ -7,7 +7,7 @@
 // which is (1 + p) (1 + p^2) (1 + p^4) (1 + p^8) r. A square doubles the shifts: 8, 22 and 32 for p^2, 16 and 44 for p^4, 32 for p^8.
 #![tactic(auto)]
 
-ghost use Rattle.std.specs.Prelude.{◌≡◌, ◌+◌, ◌/◌, ◌^◌, ◌≤◌, length, take, drop};
+ghost use Rattle.std.specs.Prelude.{◌≡◌, ◌/◌, ◌^◌};
 ghost use Rattle.checksum.specs.Sum.{sum_byte, sum_from, sum_of};
 ghost use Rattle.checksum.specs.Division.{octets, sum_in, times};
 
@@ -15,6 +15,7 @@ ghost use Rattle.checksum.specs.Division.{octets, sum_in, times};
 const START: u64 = 0xFFFF;
 
 // The quotient by the polynomial's fourth power, x^64 + x^48 + x^20 + 1: (1 + p^4) (1 + p^8) r.
+#[tactic(auto, using(crate::proofs::SumRule::fourth_divided))]
 fn fourth_quotient(register: u64) -> u64
     ensures { times 4 result / 2 ^ 64 ≡ register }
 {
@@ -23,6 +24,7 @@ fn fourth_quotient(register: u64) -> u64
 }
 
 // The quotient by the polynomial.
+#[tactic(auto, using(crate::proofs::SumRule::divided))]
 fn quotient(register: u64) -> u64
     ensures { times 1 result / 2 ^ 16 ≡ register }
 {
@@ -32,6 +34,7 @@ fn quotient(register: u64) -> u64
 }
 
 // The sum of a register's bytes: the lower 16 bits of its quotient times the polynomial.
+#[tactic(auto, using(crate::proofs::SumRule::remains))]
 fn remainder(register: u64) -> u16
     ensures { result ≡ sum_in register }
 {
@@ -41,14 +44,16 @@ fn remainder(register: u64) -> u16
 
 // One byte of the sum, high bit first: it is added to the upper half, which falls out. Of eight bits, all that the compiler leaves of the
 // quotient is top ^ (top >> 4).
+#[tactic(auto, using(crate::proofs::SumRule::whole_byte))]
 fn sum_byte(sum: u16, byte: u8) -> u16
     ensures { result ≡ sum_byte sum byte }
 {
-    let top = (sum >> 8) ^ (byte as u16);
-    (sum << 8) ^ remainder(top as u64)
+    let top = (sum >> 8) ^ u16::from(byte);
+    (sum << 8) ^ remainder(u64::from(top))
 }
 
 // Eight bytes of the sum: the register falls out and leaves its remainder by the fourth power, to which the bytes are added.
+#[tactic(auto, using(crate::proofs::SumRule::whole_word))]
 fn sum_word(register: u64, word: u64) -> u64
     ensures { sum_in result ≡ sum_from (sum_in register) (octets 8 word) }
 {
@@ -56,41 +61,18 @@ fn sum_word(register: u64, word: u64) -> u64
     q ^ (q << 20) ^ (q << 48) ^ word
 }
 
-// Four bytes as one number, the first highest.
-fn four_at(s: &[u8], at: usize) -> u32
-    requires { at + 4 ≤ length s.now }
-    ensures { octets 4 result ≡ take 4 (drop at s.now) }
-{
-    ((s[at] as u32) << 24)
-        ^ ((s[at + 1] as u32) << 16)
-        ^ ((s[at + 2] as u32) << 8)
-        ^ (s[at + 3] as u32)
-}
-
-// Eight bytes as one number. In two halves, this is compiled to one load.
-fn word_at(s: &[u8], at: usize) -> u64
-    requires { at + 8 ≤ length s.now }
-    ensures { octets 8 result ≡ take 8 (drop at s.now) }
-{
-    let high = four_at(s, at);
-    let low = four_at(s, at + 4);
-    ((high as u64) << 32) ^ (low as u64)
-}
-
 // The sum of bytes: the catalogue's CRC-16/SPI-FUJITSU, also called AUG-CCITT.
 pub fn header_sum(bytes: &[u8]) -> u16
     ensures { result ≡ sum_of bytes.now }
 {
+    let (words, rest) = bytes.as_chunks::<8>();
     let mut register = START;
-    let mut i = 0;
-    while 8 <= bytes.len() - i {
-        register = sum_word(register, word_at(bytes, i));
-        i += 8;
+    for word in words {
+        register = sum_word(register, u64::from_be_bytes(*word));
     }
     let mut sum = remainder(register);
-    while i < bytes.len() {
-        sum = sum_byte(sum, bytes[i]);
-        i += 1;
+    for byte in rest {
+        sum = sum_byte(sum, *byte);
     }
     sum
 }

@@ -13,11 +13,13 @@ use Rattle.layout.specs.Layout.{header_size, trace_limit}
 use Rattle.record.specs.Record.{Limits}
 use Rattle.seam.specs.Seam.{seam_at, told_seam}
 use Rattle.seam.specs.declared.Seam.{Seam}
+use Rattle.seam.specs.declared.SeamError.{SeamError}
+use Rattle.std.specs.Prelude.{Result}
 use Rattle.cursor.specs.Demand.{Demand}
 use Rattle.cursor.proofs.Whole.{demanded}
 
 pub pages_lose_nothing :
-    (limits : Limits) (kinds s : List ℕ) (place : ℕ) (check : Seam)
+    (limits : Limits) (kinds s : List ℕ) (place : ℕ) (check : Result Seam SeamError)
     → length s ≤ trace_limit
     → header_size ≤ place
     → place ≤ length s

@@ -4,7 +4,7 @@ use Prim.Native.Nat.{ℕ, ◌≤◌}
 use lib.ListN.{length}
 use mathlib.Core.Bool.{false}
 use mathlib.Core.List.{List}
-use mathlib.Core.Option.{none}
+use Rattle.std.specs.Prelude.{None}
 use mathlib.Core.Path.{◌≡◌, sym, ap, ◌∙◌}
 use Rattle.layout.specs.Layout.{header_size, trace_limit}
 use Rattle.record.specs.Record.{Limits, next_at}
@@ -12,6 +12,8 @@ use Rattle.rows.specs.Rows.{rows_at}
 use Rattle.rows.specs.declared.Row.{Row}
 use Rattle.seam.specs.Seam.{seam_at, told_seam}
 use Rattle.seam.specs.declared.Seam.{Seam}
+use Rattle.seam.specs.declared.SeamError.{SeamError}
+use Rattle.std.specs.Prelude.{Result, Ok}
 use Rattle.paging.proofs.Sizes.{page_room}
 use Rattle.paging.specs.Page.{PageTold}
 use Rattle.cursor.specs.Reading.{Call, Asked, Roomy, Reading, joined, bare, rows_from}
@@ -22,10 +24,10 @@ module _ (limits : Limits) (kinds s : List ℕ) where
   -- of any call, from any place
   pub room_enough : (at : ℕ) (c : Call) → Asked limits kinds s at c → length s ≤ length c.lent → Roomy c
   room_enough at c o h z =
-      page_room limits kinds s none at c.count (length c.lent) h (sym (ap (λ (t : PageTold). t.refusal) o.answered.told) ∙ z)
+      page_room limits kinds s None at c.count (length c.lent) h (sym (ap (λ (t : PageTold). t.refusal) o.answered.told) ∙ z)
 
   -- so there are pages to the last, and they have all
-  pub room_to_the_end : (place k : ℕ) (check : Seam) → length s ≤ trace_limit → header_size ≤ place → place ≤ length s → told_seam check ≡ seam_at limits kinds s place → check ≡ Seam.Unbroken k
+  pub room_to_the_end : (place k : ℕ) (check : Result Seam SeamError) → length s ≤ trace_limit → header_size ≤ place → place ≤ length s → told_seam check ≡ seam_at limits kinds s place → check ≡ Ok (Seam.Unbroken k)
       → (counts : ℕ → ℕ) (tables : ℕ → List Row) → ((at : ℕ) → 1 ≤ counts at) → ((at : ℕ) → length s ≤ length (tables at))
       → (calls : List Call) × Reading (λ (at : ℕ) (c : Call). Asked limits kinds s at c × Roomy c) place calls false × (bare (joined calls) ≡ rows_from (next_at limits kinds s) (rows_at kinds s) (length s) place)
   room_to_the_end place k check fits low high checked e counts tables h enough =

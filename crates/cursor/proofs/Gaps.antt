@@ -4,7 +4,7 @@ use lib.Dec.{ltb}
 use lib.IntN.{ℤ, ◌-ℤ◌}
 use lib.ListN.{length, get_or}
 use mathlib.Core.List.{List, [], ◌∷◌}
-use mathlib.Core.Option.{Option, some}
+use Rattle.std.specs.Prelude.{Option, Some}
 use mathlib.Core.Path.{◌≡◌, refl}
 use native.Mathlib.Numerals.{add-one}
 use native.Mathlib.Omega.{arith}
@@ -26,7 +26,7 @@ unfolding gapped
 each before [] i h = absurd (omega arith)
 each before (r ∷ []) i h = absurd (omega arith)
 each before (r ∷ (q ∷ rs)) zero h = refl
-each before (r ∷ (q ∷ rs)) (suc i) h = each (some r.millis) (q ∷ rs) i (omega arith)
+each before (r ∷ (q ∷ rs)) (suc i) h = each (Some r.millis) (q ∷ rs) i (omega arith)
 
 first_of : (before : Option ℤ) (rows : List Row) → 0 < length (gapped before rows) → (get_or (gapped before rows) 0 blank_row).gap ≡ gap_of before (get_or (gapped before rows) 0 blank_row).millis
 unfolding gapped

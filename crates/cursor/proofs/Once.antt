@@ -3,7 +3,7 @@ use Prim.Native.Nat.{ℕ}
 use lib.ListN.{length}
 use mathlib.Core.Bool.{true, false, false≢true}
 use mathlib.Core.List.{List, [], ◌∷◌}
-use mathlib.Core.Option.{none}
+use Rattle.std.specs.Prelude.{None}
 use mathlib.Core.Path.{◌≡◌, sym, ap, subst, ◌∙◌}
 use Rattle.record.specs.Record.{Limits}
 use Rattle.rows.specs.declared.Row.{Row}
@@ -20,7 +20,7 @@ module _ (limits : Limits) (kinds s : List ℕ) (counts : ℕ → ℕ) (tables :
   one_call at c d p q =
       let count : c.count ≡ d.count = p.1.count_is ∙ sym q.1.count_is in
       let lent : c.lent ≡ d.lent = p.1.table_is ∙ sym q.1.table_is in
-      let given = page_at limits kinds s none at c.count (length c.lent) in
+      let given = page_at limits kinds s None at c.count (length c.lent) in
       let other : Answered given d.answer c.lent d.after = rw (count, lent) q.0.answered in
       let same = only_answer given c.lent c.answer d.answer c.after d.after p.0.answered other in
       λ j. record { count = count j; lent = lent j; answer = same.0 j; after = same.1 j }

@@ -7,7 +7,7 @@ use lib.IntN.{ℤ, pos}
 use lib.ListN.{length}
 use mathlib.Core.Bool.{cond}
 use mathlib.Core.List.{List, [], ◌∷◌, ◌++◌, append_assoc}
-use mathlib.Core.Option.{Option, none, some}
+use Rattle.std.specs.Prelude.{Option, None, Some}
 use mathlib.Core.Path.{◌≡◌, refl, sym, ap, ◌∙◌}
 use native.Mathlib.Omega.{arith}
 use Rattle.choice.proofs.Choice.{either}
@@ -30,14 +30,14 @@ bare_append (x ∷ xs) ys = ap (λ (l : List Row). with_gap (pos 0) x ∷ l) (ba
 pub bare_gapped : (before : Option ℤ) (rows : List Row) → bare (gapped before rows) ≡ bare rows
 unfolding bare gapped
 bare_gapped before [] = refl
-bare_gapped before (r ∷ rs) = ap (λ (l : List Row). with_gap (pos 0) r ∷ l) (bare_gapped (some r.millis) rs)
+bare_gapped before (r ∷ rs) = ap (λ (l : List Row). with_gap (pos 0) r ∷ l) (bare_gapped (Some r.millis) rs)
 
 module _ (next : ℕ → Option ℕ) (rows : ℕ → List Row) (n : ℕ) (steps : Steps next n) where
-  pub rows_stop : (at : ℕ) → next at ≡ none → rows_from next rows n at ≡ []
+  pub rows_stop : (at : ℕ) → next at ≡ None → rows_from next rows n at ≡ []
   unfolding rows_from
   rows_stop at e = stopped next n steps (λ (end : ℕ). []) (λ (here : ℕ) (rest : List Row). rows here ++ rest) n at e
 
-  pub rows_on : (at m : ℕ) → next at ≡ some m → rows_from next rows n at ≡ rows at ++ rows_from next rows n m
+  pub rows_on : (at m : ℕ) → next at ≡ Some m → rows_from next rows n at ≡ rows at ++ rows_from next rows n m
   unfolding rows_from
   rows_on at m e = goes_on_lem next n steps (λ (end : ℕ). []) (λ (here : ℕ) (rest : List Row). rows here ++ rest) at m e
 
@@ -52,7 +52,7 @@ module _ (next : ℕ → Option ℕ) (rows : ℕ → List Row) (n : ℕ) (steps 
   part_none : {at k : ℕ} → Unbroken next n at k → Part at k (none_taken at)
   part_none {at} {k} u = record { left = k; fewer = omega arith; rest = u; further_on = omega arith; together = refl }
 
-  part_record : {at m k : ℕ} → next at ≡ some m → (t : Taken) → Part m k t → Part at k (with_record (rows at) t)
+  part_record : {at m k : ℕ} → next at ≡ Some m → (t : Taken) → Part m k t → Part at k (with_record (rows at) t)
   part_record {at} {m} {k} e t p =
       record {
         left = p.left;
@@ -74,7 +74,7 @@ module _ (next : ℕ → Option ℕ) (rows : ℕ → List Row) (n : ℕ) (steps 
       (λ no'. rw no' (looser (with_record (rows at) (taken next rows n m (count - length (rows at)))) (part_record e (taken next rows n m (count - length (rows at))) (part u (count - length (rows at)))))))
 
   -- with a count of at least 1 the record at the place is taken
-  pub part_more : {at m k : ℕ} → next at ≡ some m → Unbroken next n m k → (count : ℕ) → 1 ≤ count → Part at k (taken next rows n at count)
+  pub part_more : {at m k : ℕ} → next at ≡ Some m → Unbroken next n m k → (count : ℕ) → 1 ≤ count → Part at k (taken next rows n at count)
   part_more {at} {m} {k} e u count h =
       rw (taken_on next rows n steps at m count e) (rw (ne_eqb count 0 (λ z. omega arith))
       (part_record e (taken next rows n m (count - length (rows at))) (part u (count - length (rows at)))))

@@ -7,7 +7,7 @@ use lib.IntN.{ℤ}
 use lib.ListN.{length, drop}
 use mathlib.Core.Bool.{Bool, true, false, cond, false≢true}
 use mathlib.Core.List.{List, [], ◌∷◌, ◌++◌, append-nil, flat_map}
-use mathlib.Core.Option.{Option, some}
+use Rattle.std.specs.Prelude.{Option, None, Some, Result, Ok, Err}
 use mathlib.Core.Path.{◌≡◌, refl, sym, ap, ◌∙◌}
 use native.Mathlib.Omega.{arith}
 use Rattle.choice.proofs.Choice.{either}
@@ -15,8 +15,9 @@ use Rattle.layout.specs.Layout.{header_size, trace_limit}
 use Rattle.record.proofs.Steps.{Steps, past_end}
 use Rattle.rows.specs.declared.Row.{Row}
 use Rattle.seam.specs.Seam.{Unbroken, ends, more}
-use Rattle.paging.specs.Page.{gapped, Taken, taken, PageTold, PageGiven, going_on, last_page, with_none, page_from, told_page}
+use Rattle.paging.specs.Page.{gapped, Taken, taken, PageTold, PageGiven, going_on, last_page, going_or_last, with_none, page_from, told_page}
 use Rattle.paging.specs.declared.Page.{Page}
+use Rattle.paging.specs.declared.PageError.{PageError}
 use Rattle.paging.proofs.Answers.{page_answer}
 use Rattle.cursor.specs.Reading.{Call, told, page_rows, Roomy, Chosen, Reading, last, more as further, joined, bare, rows_from}
 use Rattle.cursor.specs.Table.{Answered}
@@ -25,12 +26,13 @@ use Rattle.cursor.proofs.Held.{rows_held}
 use Rattle.cursor.proofs.Pages.{bare_append, bare_gapped, rows_stop, Part, part_more, page_end, page_given}
 
 -- an answer that names a next place is no refusal
-named : (p : Page) → (told_page p).is_more ≡ true → (told_page p).refusal ≡ 0
-named (Page.More start size next) e = refl
-named (Page.Last start size) e = refl
-named Page.TraceTooLong e = absurd (false≢true e)
-named Page.WindowTooLong e = absurd (false≢true e)
-named Page.TableTooShort e = absurd (false≢true e)
+none_refused : (start size : ℕ) (next : Option ℕ) → (going_or_last start size next).refusal ≡ 0
+none_refused start size (Some next) = refl
+none_refused start size None = refl
+
+named : (p : Result Page PageError) → (told_page p).is_more ≡ true → (told_page p).refusal ≡ 0
+named (Ok p) e = none_refused p.start p.size p.next
+named (Err refusal) e = absurd (false≢true e)
 
 module _ (next : ℕ → Option ℕ) (rows : ℕ → List Row) (n : ℕ) (steps : Steps next n) (before : Option ℤ) (fits : n ≤ trace_limit) where
   -- the page from a place
@@ -60,7 +62,7 @@ module _ (next : ℕ → Option ℕ) (rows : ℕ → List Row) (n : ℕ) (steps 
       end_all = rw end_is (rw none_left)
 
     -- one page that is not refused for want of room, from a record's place, and the pages after it
-    module _ {at m k : ℕ} (counted : 1 ≤ count) (low : header_size ≤ at) (e : next at ≡ some m) (u : Unbroken next n m k) (roomy : (page count room at).told.refusal ≡ 7 → ⊥) where
+    module _ {at m k : ℕ} (counted : 1 ≤ count) (low : header_size ≤ at) (e : next at ≡ Some m) (u : Unbroken next n m k) (roomy : (page count room at).told.refusal ≡ 7 → ⊥) where
       abbrev t : Taken
       t = taken next rows n at count
 
@@ -176,7 +178,7 @@ module _ (next : ℕ → Option ℕ) (rows : ℕ → List Row) (n : ℕ) (steps 
     abbrev asked : ℕ → PageGiven
     asked at = page (counts at) (length (tables at)) at
 
-    answer_at : (at : ℕ) → (p : Page) × (told_page p ≡ (asked at).told)
+    answer_at : (at : ℕ) → (p : Result Page PageError) × (told_page p ≡ (asked at).told)
     answer_at at = page_answer next rows n before at (counts at) (length (tables at))
 
     abbrev call_at : ℕ → Call

@@ -5,7 +5,7 @@ use lib.ListN.{length}
 use mathlib.Core.Bool.{Bool}
 use mathlib.Core.List.{List, [], ◌∷◌}
 use mathlib.Core.Logic.{◌↔◌}
-use mathlib.Core.Option.{Option, none, some}
+use Rattle.std.specs.Prelude.{Option, None, Some}
 use mathlib.Core.Path.{◌≡◌, refl, sym, ap, ◌∙◌}
 use Rattle.ticks.specs.Ticks.{unix_millis}
 use Rattle.layout.specs.Layout.{header_size, trace_limit}
@@ -18,6 +18,8 @@ use Rattle.rows.specs.Rows.{row_of, frames_at, numbered, rows_at}
 use Rattle.rows.specs.declared.Row.{Row}
 use Rattle.seam.specs.Seam.{Unbroken, Broken, seam_at, told_seam}
 use Rattle.seam.specs.declared.Seam.{Seam}
+use Rattle.seam.specs.declared.SeamError.{SeamError}
+use Rattle.std.specs.Prelude.{Result, Ok}
 use Rattle.cursor.specs.Demand.{Demand}
 use Rattle.cursor.specs.Reading.{Call, Asked, Roomy, Reading, last, more, bare, rows_from}
 use Rattle.seam.proofs.Only.{only_seam}
@@ -53,11 +55,11 @@ module _ (limits : Limits) (kinds s : List ℕ) where
   steps : Steps next (length s)
   steps = record_steps limits kinds s
 
-  none_bare : (at : ℕ) → next at ≡ none → bare (all at) ≡ all at
+  none_bare : (at : ℕ) → next at ≡ None → bare (all at) ≡ all at
   unfolding bare
   none_bare at e = rw (rows_stop next (rows_at kinds s) (length s) steps at e)
 
-  more_bare : (at m : ℕ) → next at ≡ some m → bare (all m) ≡ all m → bare (all at) ≡ all at
+  more_bare : (at m : ℕ) → next at ≡ Some m → bare (all m) ≡ all m → bare (all at) ≡ all at
   more_bare at m e h =
       rw (rows_on next (rows_at kinds s) (length s) steps at m e)
       (bare_append (rows_at kinds s at) (all m) ∙ rw (bare_record kinds s at) (rw h))
@@ -65,33 +67,30 @@ module _ (limits : Limits) (kinds s : List ℕ) where
   all_bare : (at : ℕ) → bare (all at) ≡ all at
   all_bare = by_records next (length s) steps (λ (at : ℕ). bare (all at) ≡ all at) none_bare more_bare
 
-  module _ (place : ℕ) (check : Seam) (fits : length s ≤ trace_limit) (low : header_size ≤ place) (high : place ≤ length s) (checked : told_seam check ≡ seam_at limits kinds s place) where
-    abbrev Ok : ℕ → Call → Type 0
-    Ok = Asked limits kinds s
-
+  module _ (place : ℕ) (check : Result Seam SeamError) (fits : length s ≤ trace_limit) (low : header_size ≤ place) (high : place ≤ length s) (checked : told_seam check ≡ seam_at limits kinds s place) where
     -- what the check says
-    says_unbroken : (k : ℕ) → (check ≡ Seam.Unbroken k) ↔ Unbroken next (length s) place k
+    says_unbroken : (k : ℕ) → (check ≡ Ok (Seam.Unbroken k)) ↔ Unbroken next (length s) place k
     says_unbroken k =
         let law = seam_unbroken limits kinds s place fits low high k in
-        (λ e. law.0 (sym checked ∙ ap told_seam e), λ u. only_seam check (Seam.Unbroken k) (checked ∙ law.1 u))
+        (λ e. law.0 (sym checked ∙ ap told_seam e), λ u. only_seam check (Ok (Seam.Unbroken k)) (checked ∙ law.1 u))
 
-    says_broken : (at k : ℕ) → (check ≡ Seam.Broken at k) ↔ Broken next (length s) place at k
+    says_broken : (at k : ℕ) → (check ≡ Ok (Seam.Broken at k)) ↔ Broken next (length s) place at k
     says_broken at k =
         let law = seam_broken limits kinds s place fits low high at k in
-        (λ e. law.0 (sym checked ∙ ap told_seam e), λ b. only_seam check (Seam.Broken at k) (checked ∙ law.1 b))
+        (λ e. law.0 (sym checked ∙ ap told_seam e), λ b. only_seam check (Ok (Seam.Broken at k)) (checked ∙ law.1 b))
 
     pub demanded : Demand limits kinds s place check
     demanded =
         record {
           unbroken = says_unbroken;
           broken = says_broken;
-          ends = λ k e calls goes rd. few_pages next (rows_at kinds s) (length s) steps none fits Ok (λ at c o. o.answered) (λ at c o. o.counted) rd k low ((says_unbroken k).0 e);
+          ends = λ k e calls goes rd. few_pages next (rows_at kinds s) (length s) steps None fits (Asked limits kinds s) (λ at c o. o.answered) (λ at c o. o.counted) rd k low ((says_unbroken k).0 e);
           reads = λ k e counts tables h.
-              let all_read = reads_all next (rows_at kinds s) (length s) steps none fits counts tables h place k low ((says_unbroken k).0 e) in
+              let all_read = reads_all next (rows_at kinds s) (length s) steps None fits counts tables h place k low ((says_unbroken k).0 e) in
               (all_read.0, reading_of (λ at c o. (record { answered = o.0; counted = o.1 }, o.2)) all_read.1);
           whole = λ k e calls rd.
-              read_all next (rows_at kinds s) (length s) steps none fits (λ (at : ℕ) (c : Call). Ok at c × Roomy c) (λ at c o. o.0.answered) (λ at c o. o.0.counted) (λ at c o. o.1) rd refl k low ((says_unbroken k).0 e)
+              read_all next (rows_at kinds s) (length s) steps None fits (λ (at : ℕ) (c : Call). Asked limits kinds s at c × Roomy c) (λ at c o. o.0.answered) (λ at c o. o.0.counted) (λ at c o. o.1) rd refl k low ((says_unbroken k).0 e)
               ∙ all_bare place;
           gaps = λ at c o.
-              rw (rows_held next (rows_at kinds s) (length s) steps none at c o.answered) (page_gaps next (rows_at kinds s) (length s) none at c.count (length c.lent));
+              rw (rows_held next (rows_at kinds s) (length s) steps None at c o.answered) (page_gaps next (rows_at kinds s) (length s) None at c.count (length c.lent));
         }

@@ -1,20 +1,20 @@
 -- Reading page after page, each from the place that the last one named, over what a caller holds.
-use Rattle.std.specs.Prelude.{ℕ, ◌+◌, ◌≤◌, ◌<◌, ℤ, pos, ◌-ℤ◌, length, take, get_or, Bool, true, ◌≡◌}
+use Rattle.std.specs.Prelude.{ℕ, ◌+◌, ◌≤◌, ◌<◌, ℤ, pos, ◌-ℤ◌, length, take, get_or, Bool, true, ◌≡◌, Option, None, Result}
 use mathlib.Core.List.{List, [], ◌∷◌, ◌++◌, flat_map, map}
-use Rattle.std.proofs.Math.Option.{Option, none}
 use Rattle.record.specs.Record.{Limits}
 use Rattle.rows.specs.declared.Row.{Row}
 use Rattle.seam.specs.Walk.{walk}
 use Rattle.steps.specs.Step.{gap_of, blank_row}
 use Rattle.paging.specs.Page.{with_gap, PageTold, told_page, page_at}
 use Rattle.paging.specs.declared.Page.{Page}
+use Rattle.paging.specs.declared.PageError.{PageError}
 use Rattle.cursor.specs.Table.{Answered}
 
 -- a call of `frames_at` as its caller has it: the count asked for, the table that was lent, the answer, and the table afterwards
 pub record Call : Type 0 where
   pub count : ℕ
   pub lent : List Row
-  pub answer : Page
+  pub answer : Result Page PageError
   pub after : List Row
 
 -- the answer in the paper's numbers
@@ -27,7 +27,7 @@ page_rows c = take (told c).size c.after
 
 -- a call from a place, answered as `frames_at` promises; "any counts of at least 1"
 pub record Asked (limits : Limits) (kinds s : List ℕ) (at : ℕ) (c : Call) : Type 0 where
-  pub answered : Answered (page_at limits kinds s none at c.count (length c.lent)) c.answer c.lent c.after
+  pub answered : Answered (page_at limits kinds s None at c.count (length c.lent)) c.answer c.lent c.after
   pub counted : 1 ≤ c.count
 
 -- "room enough": refusal 7 was not given

@@ -1,1 +1,1 @@
-pub mod Each
+pub mod Same

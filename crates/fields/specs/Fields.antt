@@ -1,7 +1,8 @@
 -- Lines for a script: a letter and bare fields, a space before each.
-use Rattle.std.specs.Prelude.{ℕ, eqb, ℤ, Bool, cond, List, [], ◌∷◌, ◌++◌}
+use Rattle.std.specs.Prelude.{ℕ, eqb, ℤ, Bool, cond, List, [], ◌∷◌, ◌++◌, Result, Ok, Err}
 use Rattle.seam.specs.declared.Seam.{Seam}
-use Rattle.seam.specs.declared.Seam.TheVariants.{Unbroken, Broken, TraceTooLong, PlaceOutside}
+use Rattle.seam.specs.declared.Seam.TheVariants.{Unbroken, Broken}
+use Rattle.seam.specs.declared.SeamError.{SeamError}
 use Rattle.reader.specs.declared.ZlfRecord.{ZlfRecord}
 use Rattle.rows.specs.declared.Row.{Row}
 use Rattle.speed.specs.Chart.{row_for}
@@ -49,11 +50,10 @@ frame_fields kind r mpdu =
     origin_fields r.«record» r.position r.millis r.gap ++ radio_fields kind r ++ mpdu_text mpdu
 
 -- `U place records`, or `B place break records`, and `N` where the check was refused
-unfoldable pub mark_fields : Seam → ℕ → List ℕ
-mark_fields (Unbroken records) place = line_of 0x55 (place ∷ records ∷ [])
-mark_fields (Broken stop records) place = line_of 0x42 (place ∷ stop ∷ records ∷ [])
-mark_fields TraceTooLong place = 0x4E ∷ 0x0A ∷ []
-mark_fields PlaceOutside place = 0x4E ∷ 0x0A ∷ []
+unfoldable pub mark_fields : Result Seam SeamError → ℕ → List ℕ
+mark_fields (Ok (Unbroken records)) place = line_of 0x55 (place ∷ records ∷ [])
+mark_fields (Ok (Broken stop records)) place = line_of 0x42 (place ∷ stop ∷ records ∷ [])
+mark_fields (Err e) place = 0x4E ∷ 0x0A ∷ []
 
 abbrev pub bit_of : Bool → ℕ
 bit_of b = cond b 1 0

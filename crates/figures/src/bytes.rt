@@ -1,28 +1,20 @@
 // The Zniffer's bytes, to a fresh parser.
-ghost use Rattle.std.specs.Prelude.{◌<◌};
-
 use crate::{made, say};
 use std::io;
+use text::Out;
 use zniffer::Used;
 use zniffer_numbers::ParserResult;
 
 // What the bytes give: C with the id, F with time, channel, speed, region and RSSI, both with the payload; I (more bytes are wanted) or X (a bad
 // byte); then how many bytes were used.
-fn given(rt: &impl Print, u: Used) -> io::Result<()> {
-    let answer = u.answer;
-    let r = answer.result;
-    let payload = answer.payload;
-    result(rt, r, &payload)?;
-    say::field(rt, u.used as u64)
-}
-
-fn result(rt: &impl Print, r: ParserResult, payload: &[u8]) -> io::Result<()> {
-    match r {
-        ParserResult::IncompleteFrame => say::text(rt, b" I"),
-        ParserResult::InvalidFrame => say::text(rt, b" X"),
+pub fn given(rt: &impl Print, u: Used) -> io::Result<()> {
+    let payload = u.answer.payload;
+    match u.answer.result {
+        ParserResult::IncompleteFrame => print!(rt; " I")?,
+        ParserResult::InvalidFrame => print!(rt; " X")?,
         ParserResult::ValidCommand { id, length } => {
-            say::letter(rt, b'C', id as u64)?;
-            handed(rt, payload, length)
+            print!(rt; " C {id}")?;
+            say::hex(rt, &payload[..usize::from(length)])?;
         }
         ParserResult::ValidFrame {
             timestamp,
@@ -32,47 +24,27 @@ fn result(rt: &impl Print, r: ParserResult, payload: &[u8]) -> io::Result<()> {
             rssi,
             length,
         } => {
-            say::letter(rt, b'F', timestamp as u64)?;
-            say::three(rt, channel, speed, region)?;
-            say::field(rt, rssi as u64)?;
-            handed(rt, payload, length)
+            print!(rt; " F {timestamp} {channel} {speed} {region} {rssi}")?;
+            say::hex(rt, &payload[..usize::from(length)])?;
         }
     }
+    print!(rt; " {}", u.used)
 }
 
-fn handed(rt: &impl Print, payload: &[u8], length: u8) -> io::Result<()> {
-    say::hex(rt, made::part(payload, length as usize))
-}
-
-// 1 where a byte is taken after the first bytes of a frame or a command, else 0.
-fn takes(start: &[u8], value: u8) -> u64
-    ensures { result < 2 }
-{
+// Whether a byte is taken after the first bytes of a frame or a command.
+fn takes(start: &[u8], value: u8) -> bool {
     let mut bytes = [0u8; 8];
-    let at = text::put_text(&mut bytes, 0, start);
-    let len = text::put_byte(&mut bytes, at, value);
-    let ran = zniffer_core::run_fresh(made::part(&bytes, len));
-    let r = ran.result;
-    if zniffer_numbers::goes_on(r) {
-        return 1;
-    }
-    0
+    let mut out = Out {
+        bytes: &mut bytes,
+        at: 0,
+    };
+    out.put_text(start);
+    out.put_byte(value);
+    let len = out.at;
+    zniffer_numbers::goes_on(zniffer_core::run_fresh(made::part(&bytes, len)).result)
 }
 
 // How many bytes are.
-fn taken(start: &[u8]) -> u64 {
-    let mut count: u64 = 0;
-    let mut value: usize = 0;
-    while value < 256 {
-        count += takes(start, value as u8);
-        value += 1;
-    }
-    count
-}
-
-pub fn ask(rt: &impl Print, letter: u8, s: &[u8]) -> io::Result<()> {
-    if letter == b'y' {
-        return given(rt, zniffer_lent::parse_all(s));
-    }
-    say::field(rt, taken(s))
+pub fn taken(start: &[u8]) -> usize {
+    (0..=u8::MAX).filter(|value| takes(start, *value)).count()
 }

@@ -1,15 +1,17 @@
 // What the figures are run on: bytes, made one part after the other in a lent buffer, and a kind table.
 use crate::line;
 use crate::line::Numbers;
+use layout::Trace;
+use text::Out;
 
-// How many bytes are made, and the entries 1 to 4 of the kind table as the digits of a number; the others are 0.
-#[derive(Clone, Copy)]
-pub struct Made {
-    pub len: usize,
-    pub kinds: u64,
+#[derive(Drop)]
+pub struct Made<'a> {
+    out: Out<'a>,
+    kinds: [u8; 256],
 }
 
-pub fn kinds(entries: u64) -> [u8; 256] {
+// The kind table whose entries 1 to 4 are the digits of a number; the others are 0.
+fn table(entries: u64) -> [u8; 256] {
     let mut table = [0u8; 256];
     table[1] = (entries / 1000 % 10) as u8;
     table[2] = (entries / 100 % 10) as u8;
@@ -18,88 +20,80 @@ pub fn kinds(entries: u64) -> [u8; 256] {
     table
 }
 
-// A number in so many bytes, low byte first. Gives the place after it.
-fn number(s: &mut [u8], at: usize, n: u64, size: usize) -> usize {
-    let mut next = at;
-    let mut left = n;
-    let mut i: usize = 0;
-    while i < size {
-        next = text::put_byte(s, next, (left % 256) as u8);
-        left = left / 256;
-        i += 1;
+impl<'a> Made<'a> {
+    pub fn new(room: &'a mut [u8]) -> Self {
+        Made {
+            out: Out { bytes: room, at: 0 },
+            kinds: [0; 256],
+        }
     }
-    next
-}
 
-// What stands before a record's payload: ticks, properties, length.
-fn head(s: &mut [u8], at: usize, n: Numbers) -> usize {
-    let after_ticks = number(s, at, n.a, 8);
-    let after_properties = number(s, after_ticks, n.b, 1);
-    number(s, after_properties, n.c, 4)
-}
-
-// The bytes that a line has in hexadecimal.
-fn bytes(s: &mut [u8], at: usize, command: &[u8]) -> usize {
-    let mut next = at;
-    let mut i: usize = 0;
-    while i < command.len() / 3 {
-        next = text::put_byte(s, next, line::byte(command, i));
-        i += 1;
+    // The bytes that are made, and the kind table.
+    pub fn trace(&self) -> Trace<'_> {
+        Trace {
+            kinds: &self.kinds,
+            bytes: part(self.out.bytes, self.out.at),
+        }
     }
-    next
-}
 
-// The bytes from so far back, over and over, so many in all.
-fn again(s: &mut [u8], at: usize, back: usize, count: usize) -> usize {
-    let mut next = at;
-    let mut i: usize = 0;
-    while i < count {
-        let b = layout::u8_at(s, std::num::wrapping_sub_usize(next, back));
-        next = text::put_byte(s, next, b);
-        i += 1;
+    // What a line makes.
+    pub fn make(&mut self, letter: u8, command: &[u8], n: Numbers) {
+        match letter {
+            b'k' => self.kinds = table(n.c),
+            b's' => self.seal(),
+            b'+' => self.put_bytes(command),
+            b'z' => self.put_zeros(n.c),
+            b'h' => self.put_head(n),
+            b'a' => self.put_again(n.b as usize, n.c),
+            b'l' => self.out.at = n.c as usize,
+            _ => {}
+        }
     }
-    next
-}
 
-// The header's sum: "over bytes 0 to 2,045, stored low byte first at 2,046".
-fn seal(s: &mut [u8]) {
-    let n = checksum::header_sum(part(s, 2046));
-    number(s, 2046, n as u64, 2);
-}
-
-// How many bytes are made after a line.
-fn grown(letter: u8, command: &[u8], n: Numbers, s: &mut [u8], len: usize) -> usize {
-    match letter {
-        b'+' => bytes(s, len, command),
-        b'z' => number(s, len, 0, n.c as usize),
-        b'h' => head(s, len, n),
-        b'a' => again(s, len, n.b as usize, n.c as usize),
-        b'l' => n.c as usize,
-        _ => len,
-    }
-}
-
-pub fn make(letter: u8, command: &[u8], n: Numbers, s: &mut [u8], m: Made) -> Made {
-    if letter == b'k' {
-        return Made {
-            len: m.len,
-            kinds: n.c,
+    // The header's sum: "over bytes 0 to 2,045, stored low byte first at 2,046".
+    fn seal(&mut self) {
+        let sum = checksum::header_sum(part(self.out.bytes, 2046));
+        let mut place = Out {
+            bytes: self.out.bytes,
+            at: 2046,
         };
+        place.put_text(&sum.to_le_bytes());
     }
-    if letter == b's' {
-        seal(s);
-        return m;
+
+    // The bytes that a line has in hexadecimal: " + 5B 5D" has two, and their digits stand at 3 and at 6.
+    fn put_bytes(&mut self, command: &[u8]) {
+        for i in 0..command.len() / 3 {
+            let at = 3 * i + 3;
+            let high = layout::u8_at(command, at);
+            let low = layout::u8_at(command, at + 1);
+            self.out.put_byte(line::byte(high, low));
+        }
     }
-    Made {
-        len: grown(letter, command, n, s, m.len),
-        kinds: m.kinds,
+
+    fn put_zeros(&mut self, count: u64) {
+        for _ in 0..count {
+            self.out.put_byte(0);
+        }
+    }
+
+    // What stands before a record's payload: ticks, properties, length.
+    fn put_head(&mut self, n: Numbers) {
+        self.out.put_text(&n.a.to_le_bytes());
+        self.out.put_byte(line::low8(n.b));
+        self.out.put_text(&line::low32(n.c).to_le_bytes());
+    }
+
+    // The bytes from so far back, over and over, so many in all.
+    fn put_again(&mut self, back: usize, count: u64) {
+        for _ in 0..count {
+            let from = self.out.at.wrapping_sub(back);
+            let b = layout::u8_at(self.out.bytes, from);
+            self.out.put_byte(b);
+        }
     }
 }
 
 // The first bytes.
 pub fn part(s: &[u8], len: usize) -> &[u8] {
-    if len <= s.len() {
-        return &s[..len];
-    }
-    s
+    &s[..len.min(s.len())]
 }

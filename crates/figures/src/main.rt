@@ -3,123 +3,89 @@
 // are proved, in the crate `marked`.
 #![tactic(auto)]
 
-mod bodies; // bracket records, PTI frames, beams, speeds; milliseconds
+mod bodies; // bracket records, PTI frames, speeds
 mod bytes; // the Zniffer's bytes
 mod line; // the numbers and bytes of a line
 mod made; // what the figures are run on
 mod pages; // openings, pages and the seam check
-mod records; // the record test, boundaries and searches
-mod say; // what is printed
-mod seeks; // span and seeks
-mod sequence; // the header sum, opening and reading in sequence
+mod say; // what is said in more than one place
+mod seeks; // searches, span and seeks
+mod sequence; // opening and reading in sequence
 
-ghost use Rattle.std.specs.Prelude.{◌≡◌, ◌+◌, ◌<◌, ◌≤◌, length};
+ghost use Rattle.std.specs.Prelude.{◌≡◌, length};
 
+use layout::Trace;
 use line::Numbers;
 use made::Made;
+use reader::ZlfReader;
+use seek::SeekState;
 use std::io;
 use std::process::ExitCode;
 
 // Room for a trace that is longer than the first window of a search.
+// Kept: a function of its own. Where the array is made in the function that lends it, the check counts its zeros, and runs out of stack.
 fn room() -> [u8; 1050688]
     ensures { 1050688 ≡ length result }
 {
     [0; 1050688]
 }
 
-// What a letter asks.
-fn ask(rt: &impl Print, letter: u8, s: &[u8], kinds: &[u8; 256], n: Numbers) -> io::Result<()> {
+// What a letter asks of the trace that is made.
+// Kept: the letters are the file's own, each matched once; an enum between would list them a second time.
+fn ask(rt: &impl Print, letter: u8, trace: Trace, n: Numbers) -> io::Result<()> {
+    let s = trace.bytes;
+    let b = n.b as usize;
+    let c = n.c as usize;
     match letter {
-        b'o' | b'f' | b'R' | b'u' => pages::ask(rt, letter, s, kinds, n),
-        b'r' | b'B' | b'n' | b'd' => records::ask(rt, letter, s, kinds, n),
-        b's' | b'k' | b'j' => seeks::ask(rt, letter, s, kinds, n),
-        b'g' | b'q' | b'e' => sequence::ask(rt, letter, s, kinds, n),
-        b'y' | b'G' => bytes::ask(rt, letter, s),
-        _ => bodies::ask(rt, letter, s, n),
+        b'o' => pages::opening(rt, seam::open(s, line::low32(n.c))),
+        b'f' => pages::page(rt, cursor::frames_table(trace, b, c).page),
+        b'R' => pages::row(rt, cursor::frames_table(trace, b, c).rows[0]),
+        b'u' => pages::seam(rt, seam::seam_check(trace, c)),
+        b'r' => say::whether(rt, matches!(record::read_record(trace, c), Ok(Some(_)))),
+        b'B' => say::whether(rt, matches!(resync::is_boundary(trace, c), Ok(true))),
+        b'n' => seeks::search(rt, resync::next_record_at(trace, b, c)),
+        b'd' => seeks::search(rt, resync::next_record_at(trace, c, resync::DEFAULT_WINDOW)),
+        b's' => seeks::span(rt, span::time_span(trace)),
+        b'k' => seeks::whole(rt, seek::seek_time(trace, line::time(n.c))),
+        b'j' => {
+            let first = SeekState::Searching { lo: b, hi: c };
+            seeks::step(rt, seek::seek_step(trace, line::time(n.a), first))
+        }
+        b'g' => print!(rt; " {:04X}", checksum::header_sum(s)),
+        b'q' => sequence::opening(rt, ZlfReader::new(s, line::low32(n.c))),
+        b'e' => {
+            let reader = ZlfReader {
+                place: b,
+                count: n.c,
+            };
+            sequence::next(rt, reader, reader.next_record(trace))
+        }
+        b'y' => bytes::given(rt, zniffer_lent::parse_all(s)),
+        b'G' => print!(rt; " {}", bytes::taken(s)),
+        b'p' => bodies::split(rt, bracket::next_record(s, 0)),
+        b'b' => bodies::frame(rt, pti::parse_record(s)),
+        b't' => print!(rt; " {}", beam::beam_count(c, s)),
+        b'C' => print!(rt; " {}", bodies::pairs(line::low8(n.c))),
+        b'c' => print!(rt; " {}", speed::speed_for(line::low8(n.b), line::low8(n.c))),
+        b'm' => print!(rt; " {}", ticks::unix_millis(n.c)),
+        _ => print!(rt; " ?"),
     }
-}
-
-// A figure: its name, and the answer.
-fn answer(
-    rt: &impl Print,
-    name: &[u8],
-    letter: u8,
-    n: Numbers,
-    s: &[u8],
-    m: Made,
-) -> io::Result<()> {
-    let kinds = made::kinds(m.kinds);
-    say::text(rt, name)?;
-    ask(rt, letter, made::part(s, m.len), &kinds, n)?;
-    say::end(rt)
 }
 
 // A line without a name makes something, and one with a name asks of what is made; what begins with # is for the reader.
-fn read(rt: &impl Print, name: &[u8], command: &[u8], s: &mut [u8], m: Made) -> io::Result<Made> {
+fn read(rt: &impl Print, line: &[u8], made: &mut Made) -> io::Result<()> {
+    let after_colon = line.iter().rposition(|b| *b == b':').map_or(0, |i| i + 1);
+    let (name, command) = line.split_at(after_colon);
     let letter = layout::u8_at(command, 1);
     let n = line::read(command);
-    if name.len() == 0 {
-        return Ok(made::make(letter, command, n, s, m));
-    }
-    if name[0] == b'#' {
-        return Ok(m);
-    }
-    answer(rt, name, letter, n, s, m)?;
-    Ok(m)
-}
-
-// Where a line's name ends, which is after its last colon; where the line ends; and where the next one begins.
-#[derive(Clone, Copy)]
-struct Ends {
-    colon: usize,
-    end: usize,
-    next: usize,
-}
-
-fn after_colon(colon: usize, at: usize, x: u8) -> usize
-    requires { (colon ≤ at) × (at < 18446744073709551615) }
-    ensures { (colon ≤ result) × (result ≤ at + 1) }
-{
-    if x == b':' {
-        return at + 1;
-    }
-    colon
-}
-
-fn line_at(script: &[u8], from: usize) -> Ends
-    requires { from < length script.now }
-    ensures { (from ≤ result.colon) × (result.colon ≤ result.end) × (result.end ≤ length script.now) × (from < result.next) × (result.next ≤ length script.now) }
-{
-    let mut colon = from;
-    let mut at = from;
-    while at < script.len() {
-        if script[at] == b'\n' {
-            return Ends {
-                colon,
-                end: at,
-                next: at + 1,
-            };
+    match name {
+        [] => made.make(letter, command, n),
+        [b'#', ..] => {}
+        _ => {
+            rt.write_all(name)?;
+            ask(rt, letter, made.trace(), n)?;
+            rt.println("")?;
         }
-        colon = after_colon(colon, at, script[at]);
-        at += 1;
-    }
-    Ends {
-        colon,
-        end: at,
-        next: at,
-    }
-}
-
-// Reads line after line.
-fn run(rt: &impl Print, script: &[u8], s: &mut [u8]) -> io::Result<()> {
-    let mut m = Made { len: 0, kinds: 0 };
-    let mut at: usize = 0;
-    while at < script.len() {
-        let l = line_at(script, at);
-        let colon = l.colon;
-        let end = l.end;
-        m = read(rt, &script[at..colon], &script[colon..end], s, m)?;
-        at = l.next;
     }
     Ok(())
 }
@@ -128,8 +94,12 @@ fn run(rt: &impl Print, script: &[u8], s: &mut [u8]) -> io::Result<()> {
 fn answered(rt: &(impl Input + Print)) -> io::Result<()> {
     let mut script = [0u8; 16384];
     let n = streams::read_full(&mut rt.reader(), &mut script);
-    let mut s = room();
-    run(rt, &script[..n], &mut s)
+    let mut room = room();
+    let mut made = Made::new(&mut room);
+    for line in script[..n].split(|b| *b == b'\n') {
+        read(rt, line, &mut made)?;
+    }
+    Ok(())
 }
 
 fn main(rt: HostRuntime) -> io::Result<ExitCode> {

@@ -1,91 +1,57 @@
 // Openings, pages and the seam check.
-use crate::line::Numbers;
 use crate::say;
-use paging::Page;
+use paging::{Page, PageError};
 use rows::Row;
-use seam::{Opening, Seam};
+use seam::{OpenError, Seam, SeamError};
 use std::io;
 
-fn opening(rt: &impl Print, o: Opening) -> io::Result<()> {
-    match o {
-        Opening::Opened { version } => say::letter(rt, b'V', version as u64),
-        Opening::TraceTooLong => say::letter(rt, b'R', 1),
-        Opening::TraceTooShort => say::letter(rt, b'R', 2),
-        Opening::OtherVersion { version } => {
-            say::letter(rt, b'R', 4)?;
-            say::field(rt, version as u64)
+pub fn opening(rt: &impl Print, answer: Result<u32, OpenError>) -> io::Result<()> {
+    match answer {
+        Ok(version) => print!(rt; " V {version}"),
+        Err(e) => {
+            say::refused(rt, e)?;
+            if let OpenError::OtherVersion { version } = e {
+                print!(rt; " {version}")?;
+            }
+            Ok(())
         }
     }
 }
 
-fn seam(rt: &impl Print, s: Seam) -> io::Result<()> {
-    match s {
-        Seam::Unbroken { records } => say::letter(rt, b'U', records as u64),
-        Seam::Broken { place, records } => {
-            say::letter(rt, b'B', place as u64)?;
-            say::field(rt, records as u64)
-        }
-        Seam::TraceTooLong => say::letter(rt, b'R', 1),
-        Seam::PlaceOutside => say::letter(rt, b'R', 6),
+pub fn seam(rt: &impl Print, answer: Result<Seam, SeamError>) -> io::Result<()> {
+    match answer {
+        Ok(Seam::Unbroken { records }) => print!(rt; " U {records}"),
+        Ok(Seam::Broken { place, records }) => print!(rt; " B {place} {records}"),
+        Err(e) => say::refused(rt, e),
     }
 }
 
 // A page: its start, how many rows it has, and the next place.
-fn page(rt: &impl Print, p: Page) -> io::Result<()> {
-    match p {
-        Page::More { start, size, next } => {
-            say::fields(rt, start as u64, size as u64)?;
-            say::field(rt, next as u64)
+pub fn page(rt: &impl Print, answer: Result<Page, PageError>) -> io::Result<()> {
+    match answer {
+        Ok(Page { start, size, next }) => {
+            print!(rt; " {start} {size}")?;
+            say::found(rt, next)
         }
-        Page::Last { start, size } => {
-            say::fields(rt, start as u64, size as u64)?;
-            say::none(rt)
-        }
-        Page::TraceTooLong => say::letter(rt, b'R', 1),
-        Page::WindowTooLong => say::letter(rt, b'R', 5),
-        Page::TableTooShort => say::letter(rt, b'R', 7),
+        Err(e) => say::refused(rt, e),
     }
 }
 
 // A row's fields in order, R or T for direction.
-fn row(rt: &impl Print, r: Row) -> io::Result<()> {
-    say::fields(rt, r.record as u64, r.position as u64)?;
-    say::signed(rt, r.millis)?;
-    say::signed(rt, r.gap)?;
-    side(rt, r.direction)?;
-    say::three(rt, r.region, r.channel, r.speed)?;
-    say::heard(rt, r.rssi, r.beam_count, r.mpdu, r.mpdu_len)
-}
-
-fn side(rt: &impl Print, direction: u8) -> io::Result<()> {
-    if direction == 0 {
-        return say::text(rt, b" R");
-    }
-    say::text(rt, b" T")
-}
-
-// A page of a table of 600 rows, or the table's first row.
-fn paged(
-    rt: &impl Print,
-    letter: u8,
-    kinds: &[u8; 256],
-    s: &[u8],
-    offset: usize,
-    count: usize,
-) -> io::Result<()> {
-    let table = cursor::frames_table(kinds, s, offset, count);
-    if letter == b'f' {
-        let p = table.page;
-        return page(rt, p);
-    }
-    let list = table.rows;
-    row(rt, list[0])
-}
-
-pub fn ask(rt: &impl Print, letter: u8, s: &[u8], kinds: &[u8; 256], n: Numbers) -> io::Result<()> {
-    match letter {
-        b'o' => opening(rt, seam::open(s, (n.c % 4_294_967_296) as u32)),
-        b'u' => seam(rt, seam::seam_check(kinds, s, n.c as usize)),
-        _ => paged(rt, letter, kinds, s, n.b as usize, n.c as usize),
-    }
+pub fn row(rt: &impl Print, r: Row) -> io::Result<()> {
+    print!(rt;
+        " {} {} {} {} {} {} {} {} {} {} {} {}",
+        r.record,
+        r.position,
+        r.millis,
+        r.gap,
+        if r.direction == 0 { "R" } else { "T" },
+        r.region,
+        r.channel,
+        r.speed,
+        r.rssi,
+        r.beam_count,
+        r.mpdu,
+        r.mpdu_len
+    )
 }

@@ -1,8 +1,8 @@
-// Numbers at a place of a trace, the kind of an end byte, and the layout's fixed numbers.
+// A trace and its kind table, numbers at a place of a trace, the kind of an end byte, and the layout's fixed numbers.
 #![tactic(auto)]
 
-ghost use Rattle.std.specs.Prelude.{◌≡◌, ◌+◌, ◌*◌, ◌<◌, get_or};
-ghost use Rattle.layout.specs.Layout.{le_at, kind_of};
+ghost use Rattle.std.specs.Prelude.{ℕ, ◌≡◌, ◌+◌, ◌*◌, ◌≤◌, ◌↔◌, length, get_or, IsOk, IfOk};
+ghost use Rattle.layout.specs.Layout.{le_at, kind_of, trace_limit};
 
 // Bytes of the header; the first record follows it.
 pub const ZLF_HEADER_SIZE: usize = 2048;
@@ -19,6 +19,7 @@ pub const PROPERTIES: usize = 8;
 pub const LENGTH: usize = 9;
 
 // The kinds of an end byte.
+// Kept: numbers, and no enum. `rows::next_frame` and the functions that name a kind promise an answer for each of 256, and C's structs hold them.
 pub const UNKNOWN: u8 = 0;
 
 pub const PTI: u8 = 1;
@@ -29,10 +30,55 @@ pub const ZNIFFER: u8 = 3;
 
 pub const OTHER: u8 = 4;
 
-fn wide(x: u8) -> u32
-    ensures { (result ≡ x) × (result < 256) }
-{
-    x as u32
+// An answer that is none: its number in the list of refusals, 1 to 10 (include/zlf.h has them).
+pub trait Refusal {
+    ghost number: { Self → ℕ };
+
+    fn number(self) -> u32
+        ensures { result ≡ number self };
+}
+
+// The trace is over the limit.
+#[derive(Clone, Copy, Debug, PartialEq, Eq)]
+pub struct TraceTooLong;
+
+impl Refusal for TraceTooLong {
+    ghost number = { λ _. 1 };
+
+    fn number(self) -> u32 {
+        1
+    }
+}
+
+// A trace, and its kind table, which has an entry for each end byte.
+#[derive(Clone, Copy)]
+pub struct Trace<'a> {
+    pub kinds: &'a [u8; 256],
+    pub bytes: &'a [u8],
+}
+
+// A trace that is not over the limit.
+#[derive(Clone, Copy)]
+pub struct Readable<'a> {
+    pub kinds: &'a [u8; 256],
+    pub bytes: &'a [u8],
+    ghost fits: { length bytes.now ≤ trace_limit },
+}
+
+impl<'a> Trace<'a> {
+    // The same trace, if it is not over the limit.
+    pub fn readable(self) -> Result<Readable<'a>, TraceTooLong>
+        ensures same { IfOk result (λ t. (t.kinds ≡ self.entry.kinds) × (t.bytes ≡ self.entry.bytes)) }
+        ensures fits { IsOk result ↔ (length self.entry.bytes.now ≤ trace_limit) }
+    {
+        if TRACE_LIMIT < self.bytes.len() {
+            return Err(TraceTooLong);
+        }
+        Ok(Readable {
+            kinds: self.kinds,
+            bytes: self.bytes,
+        })
+    }
 }
 
 // The byte at a place; past the end it reads as 0.
@@ -42,27 +88,13 @@ pub fn u8_at(s: &[u8], at: usize) -> u8
     if at < s.len() { s[at] } else { 0 }
 }
 
-// Four bytes, low byte first.
-fn joined(a: u8, b: u8, c: u8, d: u8) -> u32
-    ensures { result ≡ a + 256 * b + 65536 * c + 16777216 * d }
-{
-    wide(a) + 256 * wide(b) + 65536 * wide(c) + 16777216 * wide(d)
-}
-
-// Two numbers of four bytes, the low one first.
-fn paired(low: u32, high: u32) -> u64
-    ensures { result ≡ low + 4294967296 * high }
-{
-    (low as u64) + 4294967296 * (high as u64)
-}
-
 pub fn u16_at(s: &[u8], at: usize) -> u16
     ensures { result ≡ le_at 2 s.now at }
 {
     if s.len() <= at {
         return 0;
     }
-    (wide(s[at]) + 256 * wide(u8_at(s, at + 1))) as u16
+    u16::from_le_bytes([s[at], u8_at(s, at + 1)])
 }
 
 pub fn u32_at(s: &[u8], at: usize) -> u32
@@ -72,9 +104,9 @@ pub fn u32_at(s: &[u8], at: usize) -> u32
         return 0;
     }
     if 4 <= s.len() - at {
-        return joined(s[at], s[at + 1], s[at + 2], s[at + 3]);
+        return u32::from_le_bytes([s[at], s[at + 1], s[at + 2], s[at + 3]]);
     }
-    joined(s[at], u8_at(s, at + 1), u8_at(s, at + 2), u8_at(s, at + 3))
+    u32::from_le_bytes([s[at], u8_at(s, at + 1), u8_at(s, at + 2), u8_at(s, at + 3)])
 }
 
 // Where eight bytes are there, the compiler reads them at once.
@@ -85,18 +117,26 @@ pub fn u64_at(s: &[u8], at: usize) -> u64
         return 0;
     }
     if 8 <= s.len() - at {
-        let low = joined(s[at], s[at + 1], s[at + 2], s[at + 3]);
-        let high = joined(s[at + 4], s[at + 5], s[at + 6], s[at + 7]);
-        return paired(low, high);
+        return u64::from_le_bytes([
+            s[at],
+            s[at + 1],
+            s[at + 2],
+            s[at + 3],
+            s[at + 4],
+            s[at + 5],
+            s[at + 6],
+            s[at + 7],
+        ]);
     }
-    paired(u32_at(s, at), u32_at(s, at + 4))
+    let low = u64::from(u32_at(s, at));
+    let high = u64::from(u32_at(s, at + 4));
+    low + 4294967296 * high
 }
 
 // The kind of an end byte, by a table of 256 entries; an entry above 4 reads as 0.
 pub fn kind_of(kinds: &[u8; 256], end: u8) -> u8
     ensures { result ≡ kind_of kinds.now end }
 {
-    let i = end as usize;
-    let kind = kinds[i];
+    let kind = kinds[usize::from(end)];
     if kind <= OTHER { kind } else { UNKNOWN }
 }

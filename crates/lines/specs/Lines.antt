@@ -1,6 +1,7 @@
 -- The lines of a list: a letter, its fields each after a space, and the line's end.
 use Rattle.std.specs.Prelude.{ℕ, eqb, cond, List, [], ◌∷◌, ◌++◌}
-use Rattle.text.specs.Put.{Put}
+use Rattle.text.specs.Put.{Puts}
+use Rattle.text.specs.declared.Out.{Out}
 use Rattle.text.specs.Texts.{space, decimal_text, signed_text}
 use Rattle.rows.specs.declared.Row.{Row}
 
@@ -13,11 +14,15 @@ spaced [] = []
 spaced (f ∷ fs) = (space ∷ f) ++ spaced fs
 
 -- fields, put into a buffer
-pub record Fields (fields : List (List ℕ)) (before : List ℕ) (at : ℕ) (after : List ℕ) (r : ℕ) : Type 0 where
-  pub puts : Put (spaced fields) before at after r
+pub record Fields (fields : List (List ℕ)) (before after : Out) : Type 0 where
+  pub puts : Puts (spaced fields) before after
+
+-- a letter, and fields after it
+abbrev pub lettered : ℕ → List (List ℕ) → List ℕ
+lettered letter fields = letter ∷ spaced fields
 
 unfoldable pub line_text : ℕ → List (List ℕ) → List ℕ
-line_text letter fields = (letter ∷ spaced fields) ++ (newline ∷ [])
+line_text letter fields = lettered letter fields ++ (newline ∷ [])
 
 -- `R` received, `T` sent
 abbrev pub side_of : ℕ → ℕ
@@ -35,9 +40,12 @@ radio_fields r = (side_of r.direction ∷ []) ∷ decimal_text r.region ∷ deci
 abbrev pub mpdu_fields : Row → List (List ℕ)
 mpdu_fields r = signed_text r.rssi ∷ decimal_text r.beam_count ∷ decimal_text r.mpdu ∷ decimal_text r.mpdu_len ∷ []
 
+abbrev pub row_fields : Row → List (List ℕ)
+row_fields r = origin_fields r ++ (radio_fields r ++ mpdu_fields r)
+
 -- 01: "F's fields are the row's in order, R or T for direction"
 unfoldable pub row_text : Row → List ℕ
-row_text r = line_text 0x46 (origin_fields r ++ (radio_fields r ++ mpdu_fields r))
+row_text r = line_text 0x46 (row_fields r)
 
 -- 01: "`R n`", "`V version`", "`U place records` or `B place break records`, or `N`"
 abbrev pub refusal_text : ℕ → List ℕ

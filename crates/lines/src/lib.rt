@@ -1,49 +1,50 @@
-// The lines of a list: a letter, fields each after a space, and the line's end. Each function takes the place of the buffer where its
-// text goes, and gives the place after it.
+// The lines of a list: a letter, fields each after a space, and the line's end, put into a lent buffer.
 #![tactic(auto)]
 
-ghost use Rattle.std.specs.Prelude.{[], ◌∷◌, ◌≡◌};
-ghost use Rattle.text.specs.Put.{Put};
+ghost use Rattle.std.specs.Prelude.{[], ◌∷◌, ◌≡◌, map};
+ghost use Rattle.text.specs.Put.{Puts};
 ghost use Rattle.text.specs.Texts.{decimal_text, signed_text};
-ghost use Rattle.lines.specs.Lines.{Fields, line_text, row_text, side_of, origin_fields, radio_fields, mpdu_fields};
+ghost use Rattle.lines.specs.Lines.{Fields, line_text, row_fields, row_text, side_of, origin_fields, radio_fields, mpdu_fields, lettered};
 
 use rows::Row;
+use text::Out;
+
+const SPACE: u8 = b' ';
+
+const NEWLINE: u8 = b'\n';
 
 // A space, and a number.
-pub fn put_field(out: &mut [u8], at: usize, n: u64) -> usize
-    ensures { Fields (decimal_text n ∷ []) out.old at out.new result }
+pub fn put_field(out: &mut Out, n: u64)
+    ensures { Fields (decimal_text n ∷ []) out.old out.new }
 {
-    let digits = text::put_byte(out, at, b' ');
-    text::put_decimal(out, digits, n)
+    out.put_byte(SPACE);
+    out.put_decimal(n);
 }
 
 // A space, and a number with its sign.
-fn put_signed_field(out: &mut [u8], at: usize, z: i64) -> usize
-    ensures { Fields (signed_text z ∷ []) out.old at out.new result }
+pub fn put_signed_field(out: &mut Out, z: i64)
+    ensures { Fields (signed_text z ∷ []) out.old out.new }
 {
-    let next = text::put_byte(out, at, b' ');
-    text::put_signed(out, next, z)
+    out.put_byte(SPACE);
+    out.put_signed(z);
 }
 
-// A letter, a number, and the line's end.
-pub fn put_line(out: &mut [u8], at: usize, letter: u8, n: u64) -> usize
-    ensures { Put (line_text letter (decimal_text n ∷ [])) out.old at out.new result }
+// Numbers, each after a space.
+pub fn put_fields(out: &mut Out, numbers: &[u64])
+    ensures { Fields (map decimal_text numbers.now) out.old out.new }
 {
-    let next = text::put_byte(out, at, letter);
-    let end = put_field(out, next, n);
-    text::put_byte(out, end, b'\n')
+    for &n in numbers {
+        put_field(out, n);
+    }
 }
 
-fn wide(x: u8) -> u64
-    ensures { result ≡ x }
+// A letter, numbers, and the line's end.
+pub fn put_line(out: &mut Out, letter: u8, numbers: &[u64])
+    ensures { Puts (line_text letter (map decimal_text numbers.now)) out.old out.new }
 {
-    x as u64
-}
-
-fn signed(x: i8) -> i64
-    ensures { result ≡ x }
-{
-    x as i64
+    out.put_byte(letter);
+    put_fields(out, numbers);
+    out.put_byte(NEWLINE);
 }
 
 // The letter of a direction.
@@ -54,43 +55,55 @@ fn side(direction: u8) -> u8
 }
 
 // Where a row stands: its record, its position, its time and its gap.
-fn put_origin(out: &mut [u8], at: usize, r: Row) -> usize
-    ensures { Fields (origin_fields r) out.old at out.new result }
+fn put_origin(out: &mut Out, r: Row)
+    ensures { Fields (origin_fields r) out.old out.new }
 {
-    let record = put_field(out, at, r.record as u64);
-    let position = put_field(out, record, r.position as u64);
-    let millis = put_signed_field(out, position, r.millis);
-    put_signed_field(out, millis, r.gap)
+    put_fields(out, &[r.record as u64, r.position as u64]);
+    put_signed_field(out, r.millis);
+    put_signed_field(out, r.gap);
 }
 
 // How it was sent: its direction, region, channel and speed.
-fn put_radio(out: &mut [u8], at: usize, r: Row) -> usize
-    ensures { Fields (radio_fields r) out.old at out.new result }
+fn put_radio(out: &mut Out, r: Row)
+    ensures { Fields (radio_fields r) out.old out.new }
 {
-    let space = text::put_byte(out, at, b' ');
-    let direction = text::put_byte(out, space, side(r.direction));
-    let region = put_field(out, direction, wide(r.region));
-    let channel = put_field(out, region, wide(r.channel));
-    put_field(out, channel, wide(r.speed))
+    out.put_byte(SPACE);
+    out.put_byte(side(r.direction));
+    put_fields(
+        out,
+        &[
+            u64::from(r.region),
+            u64::from(r.channel),
+            u64::from(r.speed),
+        ],
+    );
 }
 
 // Its RSSI, its beams, and its MPDU's place and length.
-fn put_mpdu(out: &mut [u8], at: usize, r: Row) -> usize
-    ensures { Fields (mpdu_fields r) out.old at out.new result }
+fn put_mpdu(out: &mut Out, r: Row)
+    ensures { Fields (mpdu_fields r) out.old out.new }
 {
-    let rssi = put_signed_field(out, at, signed(r.rssi));
-    let beams = put_field(out, rssi, r.beam_count as u64);
-    let mpdu = put_field(out, beams, r.mpdu as u64);
-    put_field(out, mpdu, r.mpdu_len as u64)
+    put_signed_field(out, i64::from(r.rssi));
+    put_fields(
+        out,
+        &[u64::from(r.beam_count), r.mpdu as u64, r.mpdu_len as u64],
+    );
+}
+
+// A row's letter and fields.
+pub fn put_row(out: &mut Out, r: Row)
+    ensures { Puts (lettered 0x46 (row_fields r)) out.old out.new }
+{
+    out.put_byte(b'F');
+    put_origin(out, r);
+    put_radio(out, r);
+    put_mpdu(out, r);
 }
 
 // A row's line.
-pub fn row_line(out: &mut [u8], at: usize, r: Row) -> usize
-    ensures { Put (row_text r) out.old at out.new result }
+pub fn row_line(out: &mut Out, r: Row)
+    ensures { Puts (row_text r) out.old out.new }
 {
-    let letter = text::put_byte(out, at, b'F');
-    let origin = put_origin(out, letter, r);
-    let radio = put_radio(out, origin, r);
-    let mpdu = put_mpdu(out, radio, r);
-    text::put_byte(out, mpdu, b'\n')
+    put_row(out, r);
+    out.put_byte(NEWLINE);
 }

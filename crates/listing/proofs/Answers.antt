@@ -1,56 +1,67 @@
--- The text of each answer of the search and of the opening, and of each size of input. Assumes nothing.
-use Prim.Native.Nat.{ℕ, suc, ◌-◌, ◌≤◌, ◌<◌}
+-- The text of each answer of the seam check, of the search and of the opening, and of each size of input. Assumes nothing.
+use Prim.Native.Nat.{ℕ, ◌-◌, ◌≤◌}
+use lib.Dec.{leb}
 use lib.ListN.{length, take, drop, length-drop}
 use lib.Seq.{length-take-le, take_all}
-use mathlib.Core.List.{List, ◌++◌}
-use mathlib.Core.Path.{◌≡◌, sym, ap, ◌∙◌}
+use mathlib.Core.Bool.{◌&&◌}
+use mathlib.Core.List.{List}
+use mathlib.Core.Path.{◌≡◌, refl, sym, ap, ◌∙◌}
 use native.Mathlib.Omega.{arith}
-use borrow.Author.Tests.{le-leb, lt-leb, ne_eqb}
+use borrow.Author.Tests.{le-leb, leb-true}
+use Rattle.std.specs.Prelude.{Option, None, Some, Ok, Err}
+use Rattle.choice.proofs.Choice.{left_true, right_true, either}
 use Rattle.io.specs.Counts.{IsPrefixLen}
 use Rattle.layout.specs.Layout.{le_at}
 use Rattle.record.specs.Record.{plausible}
-use Rattle.resync.specs.Search.{SearchTold, found, nothing}
-use Rattle.seam.specs.Opening.{OpeningTold, opening_told}
-use Rattle.seam.specs.Seam.{SeamTold, seam_at}
+use Rattle.resync.specs.Search.{search_refusal, found_or, told_search}
+use Rattle.resync.specs.declared.Search.{Search}
+use Rattle.resync.specs.declared.SearchError.{SearchError}
+use Rattle.resync.specs.declared.SearchError.TheVariants as Search
+use Rattle.seam.specs.Opening.{open_refusal, told_opening}
+use Rattle.seam.specs.declared.OpenError.{OpenError}
+use Rattle.seam.specs.declared.OpenError.TheVariants as Open
+use Rattle.seam.specs.Seam.{SeamTold, seam_at, seam_refusal, told_seam}
+use Rattle.seam.specs.declared.SeamError.{SeamError}
+use Rattle.seam.specs.declared.SeamError.TheVariants as Seam
 use Rattle.text.specs.Put.{Put}
 use Rattle.text.proofs.Puts.{inside}
-use Rattle.lines.specs.Lines.{refusal_text, version_text, none_text}
+use Rattle.lines.specs.Lines.{refusal_text, none_text}
 use Rattle.listing.specs.Listing.{seam_line, seam_found, opened_text, trace_text, list_text}
 
-module _ (kinds s : List ℕ) (t : SearchTold) where
-  pub found_text : (offset judged : ℕ) (m : SeamTold) → found offset judged ≡ t → m ≡ seam_at plausible kinds s offset → seam_line offset m ≡ seam_found kinds s t
+-- a seam check that is refused
+pub unchecked : (place : ℕ) (e : SeamError) → refusal_text (seam_refusal e) ≡ seam_line place (told_seam (Err e))
+unfolding seam_line
+unchecked place Seam.TraceTooLong = refl
+unchecked place Seam.PlaceOutside = refl
+
+module _ (kinds s : List ℕ) where
+  pub found_text : (found : Search) (offset : ℕ) (m : SeamTold) → found.offset ≡ Some offset → m ≡ seam_at plausible kinds s offset
+      → seam_line offset m ≡ seam_found kinds s (told_search (Ok found))
   unfolding seam_found
-  found_text offset judged m e f = ap (seam_line offset) f ∙ ap (seam_found kinds s) e
+  found_text found offset m e f = ap (seam_line offset) f ∙ ap (λ (o : Option ℕ). seam_found kinds s (found_or o found.judged)) (sym e)
 
-  pub none_text_lem : (judged : ℕ) → nothing 0 judged ≡ t → none_text ≡ seam_found kinds s t
+  pub nothing_text : (found : Search) → found.offset ≡ None → none_text ≡ seam_found kinds s (told_search (Ok found))
   unfolding seam_found
-  none_text_lem judged e = ap (seam_found kinds s) e
+  nothing_text found e = ap (λ (o : Option ℕ). seam_found kinds s (found_or o found.judged)) (sym e)
 
-  pub too_long_text : nothing 1 0 ≡ t → refusal_text 1 ≡ seam_found kinds s t
+  pub unsearched : (e : SearchError) → refusal_text (search_refusal e) ≡ seam_found kinds s (told_search (Err e))
   unfolding seam_found
-  too_long_text e = ap (seam_found kinds s) e
+  unsearched Search.TraceTooLong = refl
+  unsearched Search.WindowTooLong = refl
 
-  pub window_text : nothing 5 0 ≡ t → refusal_text 5 ≡ seam_found kinds s t
-  unfolding seam_found
-  window_text e = ap (seam_found kinds s) e
-
-module _ (rest : List ℕ) (o : OpeningTold) where
-  pub opened_text_lem : (version : ℕ) → opening_told 0 version ≡ o → version_text version ++ rest ≡ opened_text o rest
-  unfolding opened_text
-  opened_text_lem version e = ap (λ (x : OpeningTold). opened_text x rest) e
-
-  pub refused_text : (n version : ℕ) → opening_told (suc n) version ≡ o → refusal_text (suc n) ≡ opened_text o rest
-  unfolding opened_text
-  refused_text n version e = simp (ne_eqb (suc n) 0 (λ z. omega arith)) at (ap (λ (x : OpeningTold). opened_text x rest) e)
+pub unopened : (rest : List ℕ) (e : OpenError) → refusal_text (open_refusal e) ≡ opened_text (told_opening (Err e)) rest
+unfolding opened_text
+unopened rest Open.TraceTooLong = refl
+unopened rest Open.TraceTooShort = refl
+unopened rest (Open.OtherVersion version) = refl
 
 module _ (input : List ℕ) where
-  pub short_text : length input < 260 → refusal_text 0 ≡ list_text input
+  pub unlisted_text : ((260 ≤ length input) × (length input ≤ 8192) → ⊥) → refusal_text 0 ≡ list_text input
   unfolding list_text
-  short_text h = simp (lt-leb 260 (length input) h)
-
-  pub long_text : 8192 < length input → refusal_text 0 ≡ list_text input
-  unfolding list_text
-  long_text h = let l : 260 ≤ length input = omega arith in simp (le-leb 260 (length input) l, lt-leb (length input) 8192 h)
+  unlisted_text h =
+      either (leb 260 (length input) && leb (length input) 8192)
+      (λ e. absurd (h (leb-true _ _ (left_true _ _ e), leb-true _ _ (right_true _ _ e))))
+      (λ e. simp e)
 
   pub listed_text : (kinds : List ℕ) (version : ℕ) → kinds ≡ take 256 input → version ≡ le_at 4 input 256 → 260 ≤ length input → length input ≤ 8192
       → trace_text kinds version (take (length input - 260) (drop 260 input)) ≡ list_text input

@@ -6,7 +6,7 @@ use lib.IntN.{ℤ}
 use lib.ListN.{length}
 use mathlib.Core.Bool.{Bool, true, false, true≢false}
 use mathlib.Core.List.{List, ◌++◌, append_assoc, append-nil, flat_map}
-use mathlib.Core.Option.{Option, none, some}
+use Rattle.std.specs.Prelude.{Option, None, Some}
 use mathlib.Core.Path.{◌≡◌, refl, sym, ap, ◌∙◌}
 use native.Mathlib.Omega.{arith}
 use borrow.Author.Tests.{ltb-true}
@@ -47,11 +47,11 @@ module _ (next : ℕ → Option ℕ) (rows : ℕ → List Row) (n : ℕ) (steps 
       (λ x. omega (arith, steps.grows at m e, after (count - length (rows at))))))
 
   -- and later where a record is there and rows are wanted
-  later : (at m : ℕ) → next at ≡ some m → at < (taken next rows n at 64).end
+  later : (at m : ℕ) → next at ≡ Some m → at < (taken next rows n at 64).end
   later at m e = rw (taken_on next rows n steps at m 64 e) (omega (arith, steps.grows at m e, further m (64 - length (rows at))))
 
   module _ (before : Option ℤ) (offset room : ℕ) where
-    moves_lent : (start m : ℕ) → offset ≤ start → next start ≡ some m → Moves n offset (lent_to n before room 64 start (taken next rows n start 64))
+    moves_lent : (start m : ℕ) → offset ≤ start → next start ≡ Some m → Moves n offset (lent_to n before room 64 start (taken next rows n start 64))
     unfolding Moves
     moves_lent start m h e =
         let t = taken next rows n start 64 in
@@ -119,14 +119,14 @@ module _ (kinds s : List ℕ) where
   steps_in : Steps (next_at plausible kinds s) (length s)
   steps_in = record_steps plausible kinds s
 
-  same : (at : ℕ) (c : Call) → Listed kinds s at c → page_at plausible kinds s none at c.count (length c.lent) ≡ page_of kinds s at
-  same at c o = λ j. page_at plausible kinds s none at (o.count_is j) (o.room_is j)
+  same : (at : ℕ) (c : Call) → Listed kinds s at c → page_at plausible kinds s None at c.count (length c.lent) ≡ page_of kinds s at
+  same at c o = λ j. page_at plausible kinds s None at (o.count_is j) (o.room_is j)
 
   told_is : (at : ℕ) (c : Call) → Listed kinds s at c → told c ≡ (page_of kinds s at).told
   told_is at c o = o.asked.answered.told ∙ ap (λ (g : PageGiven). g.told) (same at c o)
 
   rows_are : (at : ℕ) (c : Call) → Listed kinds s at c → page_rows c ≡ (page_of kinds s at).rows
-  rows_are at c o = rows_held (next_at plausible kinds s) (rows_at kinds s) (length s) steps_in none at c o.asked.answered ∙ ap (λ (g : PageGiven). g.rows) (same at c o)
+  rows_are at c o = rows_held (next_at plausible kinds s) (rows_at kinds s) (length s) steps_in None at c o.asked.answered ∙ ap (λ (g : PageGiven). g.rows) (same at c o)
 
   not_refused : (at : ℕ) (c : Call) → Listed kinds s at c → (told c).refusal ≡ 0
   not_refused at c o = o.good
@@ -137,5 +137,5 @@ module _ (kinds s : List ℕ) where
   all_listed end {calls} h r =
       let n : length calls + header_size ≤ length s + 1 =
       number (page_of kinds s) (Listed kinds s) told_is rows_are not_refused (length s)
-      (λ at. moves (next_at plausible kinds s) (rows_at kinds s) (length s) steps_in none at 600) r h in
+      (λ at. moves (next_at plausible kinds s) (rows_at kinds s) (length s) steps_in None at 600) r h in
       read_text (page_of kinds s) (Listed kinds s) told_is rows_are not_refused end r refl (length s) (omega arith)

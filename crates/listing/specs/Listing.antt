@@ -1,7 +1,6 @@
 -- The whole output of the program trace-list for an input.
-use Rattle.std.specs.Prelude.{ℕ, zero, suc, leb, eqb, length, take, drop, cond, ◌&&◌, ◌≡◌}
+use Rattle.std.specs.Prelude.{ℕ, zero, suc, leb, eqb, length, take, drop, cond, ◌&&◌, ◌≡◌, None}
 use mathlib.Core.List.{List, [], ◌++◌, flat_map}
-use Rattle.std.proofs.Math.Option.{none}
 use Rattle.layout.specs.Layout.{le_at, header_size}
 use Rattle.rows.specs.declared.Row.{Row}
 use Rattle.record.specs.Record.{plausible}
@@ -14,7 +13,7 @@ use Rattle.lines.specs.Lines.{row_text, refusal_text, version_text, unbroken_tex
 
 -- 01: "pages of 64 .. into a table of 600 rows"
 abbrev pub page_of : List ℕ → List ℕ → ℕ → PageGiven
-page_of kinds s at = page_at plausible kinds s none at 64 600
+page_of kinds s at = page_at plausible kinds s None at 64 600
 
 -- such a page, as a call has it that is not refused
 pub record Listed (kinds s : List ℕ) (at : ℕ) (c : Call) : Type 0 where

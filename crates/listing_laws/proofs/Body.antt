@@ -10,13 +10,12 @@ use mir.Syntax.{w8}
 use mir.Val.{to_z, sel}
 use native.Mathlib.Omega.{arith}
 use borrow.Author.Tests.{ltb-true}
+use Rattle.std.specs.Prelude.{Option, None, Some}
 use Rattle.choice.proofs.Choice.{by_choice}
 use Rattle.speed.specs.Speed.{key_of, at9600, at40_k, at100_k, at_long_range, among, speed_for}
 use Rattle.beam.specs.Beam.{starts_marked, repeats, beam_count}
 use Rattle.pti.specs.Frame.{tail_size, rssi_of, region_of, channel_of, speed_of, is_beam, fields_of, accepted, parts_of, sided_of, tagged_of, frame_of}
 use Rattle.pti.specs.declared.PtiFrame.{PtiFrame}
-use Rattle.pti.specs.declared.Parsed.{Parsed}
-use Rattle.pti.specs.declared.Parsed.TheVariants.{Frame, Nothing}
 use Rattle.pti.proofs.Mpdus.{mpdu_inside}
 
 -- the fields of a frame but its MPDU's
@@ -60,14 +59,14 @@ rssi_small true tail = omega arith
 rssi_small false tail = signed_small (get_or tail 1 0)
 
 -- what a body of n bytes may hold
-Holds : ℕ → Parsed → Type 0
-Holds n (Frame f) = (18 ≤ n) × Radio f
-Holds n Nothing = Unit
+Holds : ℕ → Option PtiFrame → Type 0
+Holds n (Some f) = (18 ≤ n) × Radio f
+Holds n None = Unit
 
 parts_hold : (n place : ℕ) (sent : Bool) (part tail : List ℕ) → 18 ≤ n → Holds n (parts_of place sent part tail)
 unfolding Holds parts_of
 parts_hold n place sent part tail h =
-    by_choice (Holds n) (accepted sent part tail) {a = Frame (fields_of place sent part tail)} {b = Nothing}
+    by_choice (Holds n) (accepted sent part tail) {a = Some (fields_of place sent part tail)} {b = None}
     (λ e. (
       h,
       record {
@@ -88,7 +87,7 @@ module _ (body : List ℕ) where
   sided_holds header sent h =
       let part = take (length body - tail_size sent - header) (drop header body) in
       let tail = drop (length body - tail_size sent) body in
-      by_choice (Holds (length body)) (ltb (header + tail_size sent) (length body)) {a = parts_of header sent part tail} {b = Nothing}
+      by_choice (Holds (length body)) (ltb (header + tail_size sent) (length body)) {a = parts_of header sent part tail} {b = None}
       (λ e. parts_hold (length body) header sent part tail (longer sent (ltb-true (header + tail_size sent) (length body) e)))
       (λ e. tt)
     where
@@ -109,6 +108,6 @@ module _ (body : List ℕ) where
       (λ e. by_choice (Holds (length body)) (eqb (get_or body 0 0) 3) (λ z. tagged_holds 19 (omega arith)) (λ z. tt))
 
   -- of a frame that a body holds
-  pub body_frame : (f : PtiFrame) → frame_of body ≡ Frame f → (18 ≤ length body) × (Radio f × (f.mpdu + f.mpdu_len ≤ length body))
+  pub body_frame : (f : PtiFrame) → frame_of body ≡ Some f → (18 ≤ length body) × (Radio f × (f.mpdu + f.mpdu_len ≤ length body))
   unfolding Holds
-  body_frame f e = let h : Holds (length body) (Frame f) = subst (Holds (length body)) e holds in (h.0, (h.1, mpdu_inside body f e))
+  body_frame f e = let h : Holds (length body) (Some f) = subst (Holds (length body)) e holds in (h.0, (h.1, mpdu_inside body f e))

@@ -8,14 +8,13 @@ use mathlib.Core.List.{List, [], ◌∷◌, ◌++◌}
 use mathlib.Core.Path.{◌≡◌, refl, subst}
 use native.Mathlib.Decide.{dec_le}
 use native.Mathlib.Omega.{arith}
+use Rattle.std.specs.Prelude.{Option, None, Some}
 use Rattle.choice.proofs.Choice.{either}
 use Rattle.bracket.specs.Bracket.{next_record}
-use Rattle.bracket.specs.declared.Split.{Split}
-use Rattle.bracket.specs.declared.Split.TheVariants.{Body, End}
+use Rattle.bracket.specs.declared.Body.{Body}
 use Rattle.bracket.proofs.Splitting.{body_further, body_inside, next_further, next_inside}
 use Rattle.pti.specs.Frame.{frame_of}
 use Rattle.pti.specs.declared.PtiFrame.{PtiFrame}
-use Rattle.pti.specs.declared.Parsed.{Parsed}
 use Rattle.zniffer_core.specs.Run.{core_run_from}
 use Rattle.zniffer_numbers.specs.Numbers.{fresh_core, goes_on}
 use Rattle.zniffer_numbers.specs.declared.ParserResult.{ParserResult}
@@ -49,11 +48,11 @@ tenth n from [] h k = omega arith
 tenth n from (f ∷ fs) h k = omega (arith, k.1.0, tenth n f.next fs k.1.1.0 k.1.1.1)
 
 module _ (p : List ℕ) where
-  held : (from at len next : ℕ) → from < at → at + len ≤ length p → next ≡ at + len + 1 → next ≤ length p → (r : Parsed) → frame_of (take len (drop at p)) ≡ r
+  held : (from at len next : ℕ) → from < at → at + len ≤ length p → next ≡ at + len + 1 → next ≤ length p → (r : Option PtiFrame) → frame_of (take len (drop at p)) ≡ r
       → (rest : List Placed) → Costly (length p) next rest → Costly (length p) from (held_by at len r ++ rest)
   unfolding Costly
-  held from at len next f i n m Parsed.Nothing e rest h = earlier (length p) from next (omega arith) rest h
-  held from at len next f i n m (Parsed.Frame g) e rest h =
+  held from at len next f i n m None e rest h = earlier (length p) from next (omega arith) rest h
+  held from at len next f i n m (Some g) e rest h =
       let size : length (take len (drop at p)) ≡ len = length-take-le len (drop at p) (simp length-drop (omega arith)) in
       let b = body_frame (take len (drop at p)) g e in
       let radio = b.1.0 in (
@@ -65,13 +64,13 @@ module _ (p : List ℕ) where
         (omega (arith, b.0), (omega arith, subst (λ (k : ℕ). Costly (length p) k rest) n h)),
       )
 
-  pti_at : (from : ℕ) → ((next : ℕ) → from < next → Costly (length p) next (pti_from p next)) → (r : Split) → next_record p from ≡ r → Costly (length p) from (pti_from p from)
+  pti_at : (from : ℕ) → ((next : ℕ) → from < next → Costly (length p) next (pti_from p next)) → (r : Option Body) → next_record p from ≡ r → Costly (length p) from (pti_from p from)
   unfolding Costly
-  pti_at from ih End e = rw (pti.no_body p from e) tt
-  pti_at from ih (Body at len next) e =
-      rw (pti.body p from at len next e)
-      (held from at len next (body_further p from at len next e) (body_inside p from at len next e) (pti.next_is p from at len next e) (next_inside p from at len next e)
-      (frame_of (take len (drop at p))) refl (pti_from p next) (ih next (next_further p from at len next e)))
+  pti_at from ih None e = rw (pti.no_body p from e) tt
+  pti_at from ih (Some b) e =
+      rw (pti.body p from b e)
+      (held from b.at b.len b.next (body_further p from b e) (body_inside p from b e) (pti.next_is p from b e) (next_inside p from b e)
+      (frame_of (take b.len (drop b.at p))) refl (pti_from p b.next) (ih b.next (next_further p from b e)))
 
   pti_by : (t from : ℕ) → length p ≤ from + t → Costly (length p) from (pti_from p from)
   unfolding Costly

@@ -4,7 +4,7 @@ use lib.Dec.{ltb, eqb}
 use lib.ListN.{length, length-append}
 use mathlib.Core.Bool.{true, false, true≢false}
 use mathlib.Core.List.{List, [], ◌∷◌, ◌++◌, flat_map}
-use mathlib.Core.Option.{Option, none, some}
+use Rattle.std.specs.Prelude.{Option, None, Some}
 use mathlib.Core.Path.{◌≡◌, refl, sym, ◌∙◌}
 use native.Mathlib.Omega.{arith}
 use borrow.Author.Tests.{ltb-true}
@@ -33,8 +33,8 @@ pub record Fits (n at : ℕ) (g : PageGiven) : Type 0 where
   pub more : g.told.is_more ≡ true → 10 * length g.rows + (n - g.told.next) ≤ n - at
 
 judged_refusal : (start all : ℕ) (o : Option ℕ) → (judged_of start all o).refusal ≡ 0
-judged_refusal start all none = refl
-judged_refusal start all (some r) = refl
+judged_refusal start all None = refl
+judged_refusal start all (Some r) = refl
 
 pub search_refusal : (next : ℕ → Option ℕ) (n from window : ℕ) → (searched next n from window).refusal ≤ 5
 unfolding searched
@@ -66,17 +66,17 @@ module _ (kinds s : List ℕ) (short : length s ≤ 7932) where
         more = λ y. absurd (true≢false (sym y ∙ e));
       }
 
-  lent_fits : (at start : ℕ) → at ≤ start → header_size ≤ start → start ≤ n → Fits n at (lent_to n none 600 64 start (taken next (rows_at kinds s) n start 64))
+  lent_fits : (at start : ℕ) → at ≤ start → header_size ≤ start → start ≤ n → Fits n at (lent_to n None 600 64 start (taken next (rows_at kinds s) n start 64))
   lent_fits at start from high within =
       let t = taken next (rows_at kinds s) n start 64 in
       let k : Took kinds s short start t = took kinds s short start 64 in
-      let len : length (gapped none t.rows) ≡ length t.rows = length_gapped none t.rows in
+      let len : length (gapped None t.rows) ≡ length t.rows = length_gapped None t.rows in
       let inside : t.end ≤ n = k.inside within in
       by_choice (Fits n at) (ltb 600 (length t.rows))
-      {a = with_none (page_refused 7)} {b = record { told = next_told n 64 start t; rows = gapped none t.rows }}
+      {a = with_none (page_refused 7)} {b = record { told = next_told n 64 start t; rows = gapped None t.rows }}
       (λ e. absurd (omega (arith, ltb-true 600 (length t.rows) e, k.few)))
       (λ e.
-      by_choice (λ (p : PageTold). Fits n at (record { told = p; rows = gapped none t.rows })) (ltb t.end n)
+      by_choice (λ (p : PageTold). Fits n at (record { told = p; rows = gapped None t.rows })) (ltb t.end n)
       {a = going_on start (length t.rows) t.end} {b = last_page start (length t.rows)}
       (λ z.
       record {

@@ -4,7 +4,7 @@ use lib.Dec.{ltb, eqb}
 use lib.IntN.{ℤ, pos, negsuc, nat_abs, sub_ℕ, ◌-ℤ◌}
 use lib.ListN.{length, drop, length-append, length-take}
 use mathlib.Core.List.{List, [], ◌∷◌}
-use mathlib.Core.Option.{Option, none, some}
+use Rattle.std.specs.Prelude.{Option, None, Some}
 use mathlib.Core.Path.{◌≡◌}
 use native.Mathlib.Omega.{arith}
 use borrow.Author.Tests.{ltb-true}
@@ -75,7 +75,7 @@ module _ (kinds s : List ℕ) (short : length s ≤ 7932) where
   steps : Steps next n
   steps = record_steps plausible kinds s
 
-  record_rows : (at m : ℕ) → next at ≡ some m → (10 * length (rows at) + at ≤ m) × Each Plain (rows at)
+  record_rows : (at m : ℕ) → next at ≡ Some m → (10 * length (rows at) + at ≤ m) × Each Plain (rows at)
   unfolding rows_at
   record_rows at m e =
       let p = payload_at s at in
@@ -138,13 +138,13 @@ apart (negsuc a) (negsuc b) = omega (arith, sub_small (suc b) (suc a))
 
 -- a time before is a record's
 Before : Option ℤ → Type 0
-Before none = Unit
-Before (some z) = nat_abs z ≤ latest
+Before None = Unit
+Before (Some z) = nat_abs z ≤ latest
 
 gap_small : (before : Option ℤ) (time : ℤ) → Before before → nat_abs time ≤ latest → nat_abs (gap_of before time) < most
 unfolding Before
-gap_small none time b h = omega arith
-gap_small (some z) time b h = omega (arith, apart time z)
+gap_small None time b h = omega arith
+gap_small (Some z) time b h = omega (arith, apart time z)
 
 gapped_small : (before : Option ℤ) → Before before → (rows : List Row) → Each Plain rows → Each Small (gapped before rows)
 unfolding gapped Before
@@ -164,10 +164,10 @@ gapped_small before b (r ∷ rows) h =
         mpdu = p.mpdu;
         mpdu_len = p.mpdu_len;
       },
-      gapped_small (some r.millis) p.millis rows h.1,
+      gapped_small (Some r.millis) p.millis rows h.1,
     )
 
 -- with no time before
-pub gapped_none : (rows : List Row) → Each Plain rows → Each Small (gapped none rows)
+pub gapped_none : (rows : List Row) → Each Plain rows → Each Small (gapped None rows)
 unfolding Before
-gapped_none = gapped_small none tt
+gapped_none = gapped_small None tt

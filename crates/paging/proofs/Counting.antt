@@ -3,7 +3,7 @@ use Prim.Native.Nat.{ℕ, suc, ◌+◌, ◌-◌, ◌≤◌, ◌<◌}
 use borrow.Author.Tests.{ne_eqb}
 use lib.ListN.{length, length-append}
 use mathlib.Core.List.{List, [], ◌∷◌}
-use mathlib.Core.Option.{Option, none, some}
+use Rattle.std.specs.Prelude.{Option, None, Some}
 use mathlib.Core.Path.{◌≡◌, refl, sym, ap, ◌∙◌}
 use native.Mathlib.Omega.{arith}
 use Rattle.layout.specs.Fields.{kind_at, outgoing_at}
@@ -34,15 +34,15 @@ module _ (next : ℕ → Option ℕ) (rows : ℕ → List Row) (n : ℕ) (steps 
   begins = let all : count - 0 ≡ count = omega arith in record { number = rw all (omega arith); end = rw all }
 
   pub wanted_none : (at : ℕ) (o : Option ℕ) → next at ≡ o → taken next rows n at 0 ≡ none_taken at
-  wanted_none at none e = taken_stops next rows n steps at 0 e
-  wanted_none at (some m) e = taken_on next rows n steps at m 0 e
+  wanted_none at None e = taken_stops next rows n steps at 0 e
+  wanted_none at (Some m) e = taken_on next rows n steps at m 0 e
 
   module _ (at total : ℕ) (c : Counts next rows n start count at total) where
     ended : taken next rows n at (count - total) ≡ none_taken at → (total ≡ length (taken next rows n start count).rows) × (at ≡ (taken next rows n start count).end)
     ended e = (omega (arith, c.number, ap (λ (t : Taken). length t.rows) e), sym (c.end ∙ ap (λ (t : Taken). t.end) e))
 
     -- no valid record comes
-    pub stops : next at ≡ none → (total ≡ length (taken next rows n start count).rows) × (at ≡ (taken next rows n start count).end)
+    pub stops : next at ≡ None → (total ≡ length (taken next rows n start count).rows) × (at ≡ (taken next rows n start count).end)
     stops e = ended (taken_stops next rows n steps at (count - total) e)
 
     -- there are rows enough
@@ -52,7 +52,7 @@ module _ (next : ℕ → Option ℕ) (rows : ℕ → List Row) (n : ℕ) (steps 
         ended (rw none_wanted (wanted_none at (next at) refl))
 
     -- a record more
-    pub adds : total < count → (m k : ℕ) → next at ≡ some m → k ≡ length (rows at) → Counts next rows n start count m (total + k)
+    pub adds : total < count → (m k : ℕ) → next at ≡ Some m → k ≡ length (rows at) → Counts next rows n start count m (total + k)
     adds h m k e k-is =
         let left = count - total in
         let rest = taken next rows n m (left - length (rows at)) in

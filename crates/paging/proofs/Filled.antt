@@ -5,7 +5,7 @@ use lib.Dec.{eqb}
 use lib.IntN.{ℤ}
 use lib.ListN.{length, take, length-append}
 use mathlib.Core.List.{List, [], ◌∷◌, ◌++◌, append_assoc}
-use mathlib.Core.Option.{Option, none, some}
+use Rattle.std.specs.Prelude.{Option, None, Some}
 use mathlib.Core.Path.{◌≡◌, refl, sym, ap, ◌∙◌}
 use native.Mathlib.Omega.{arith}
 use Rattle.choice.proofs.Choice.{either}
@@ -31,7 +31,7 @@ use Rattle.seam.proofs.Walks.{stopped, goes_on_lem, by_records}
 front : (before : Option ℤ) (xs ys : List Row) → take (length xs) (gapped before (xs ++ ys)) ≡ gapped before xs
 unfolding gapped
 front before [] ys = refl
-front before (x ∷ xs) ys = ap (λ (l : List Row). with_gap (gap_of before x.millis) x ∷ l) (front (some x.millis) xs ys)
+front before (x ∷ xs) ys = ap (λ (l : List Row). with_gap (gap_of before x.millis) x ∷ l) (front (Some x.millis) xs ys)
 
 module _ (limits : Limits) (kinds s : List ℕ) (low : 630822816000000000 ≤ limits.low) (high : limits.high ≤ 662479488000000000) where
   abbrev next : ℕ → Option ℕ
@@ -50,21 +50,21 @@ module _ (limits : Limits) (kinds s : List ℕ) (low : 630822816000000000 ≤ li
   left : ℕ → ℕ → ℕ → List Row
   left at = walk next none_left left_at (length s) at
 
-  left_stops : (at index position : ℕ) → next at ≡ none → left at index position ≡ []
+  left_stops : (at index position : ℕ) → next at ≡ None → left at index position ≡ []
   unfolding left
   left_stops at index position e = ap (λ (f : ℕ → ℕ → List Row). f index position) (stopped next (length s) steps none_left left_at (length s) at e)
 
-  left_on : (at m index position : ℕ) → next at ≡ some m → left at index position ≡ numbered s at position (frames_at kinds s at index) ++ left m 0 0
+  left_on : (at m index position : ℕ) → next at ≡ Some m → left at index position ≡ numbered s at position (frames_at kinds s at index) ++ left m 0 0
   unfolding left
   left_on at m index position e = ap (λ (f : ℕ → ℕ → List Row). f index position) (goes_on_lem next (length s) steps none_left left_at at m e)
 
   -- from its first place on, all of a record's rows
-  record_left : (at m : ℕ) → next at ≡ some m → left at 0 0 ≡ rows_at kinds s at ++ left m 0 0
+  record_left : (at m : ℕ) → next at ≡ Some m → left at 0 0 ≡ rows_at kinds s at ++ left m 0 0
   unfolding rows_at
   record_left at m e = left_on at m 0 0 e
 
   rows_left : Place → List Row
-  rows_left p = gapped (before_of p.has_previous p.previous) (left p.offset p.index p.position)
+  rows_left p = gapped (before_of p.previous) (left p.offset p.index p.position)
 
   -- a step gives the first of the rows that are left, and leaves the others
   Heads : List Row → StepTold → Type 0
@@ -73,25 +73,25 @@ module _ (limits : Limits) (kinds s : List ℕ) (low : 630822816000000000 ≤ li
 
   module _ (p : Place) where
     abbrev b : Option ℤ
-    b = before_of p.has_previous p.previous
+    b = before_of p.previous
 
     abbrev Good : ℕ → Type 0
     Good at = (index position : ℕ) → Heads (gapped b (left at index position)) (step_from limits kinds s p at index position)
 
-    good_stop : (at : ℕ) → next at ≡ none → Good at
+    good_stop : (at : ℕ) → next at ≡ None → Good at
     unfolding Heads gapped
     good_stop at e index position = rw (left_stops at index position e) tt
 
-    good_frames : (at m index position : ℕ) → next at ≡ some m → Good m → (fs : List Placed) → frames_at kinds s at index ≡ fs
+    good_frames : (at m index position : ℕ) → next at ≡ Some m → Good m → (fs : List Placed) → frames_at kinds s at index ≡ fs
         → Heads (gapped b (numbered s at position fs ++ left m 0 0)) (row_step s (moved_to p at index position) (first_of fs) (step_from limits kinds s p m 0 0))
     unfolding Heads gapped numbered rows_left
     good_frames at m index position e ih [] is = ih 0 0
     good_frames at m index position e ih (f ∷ fs) is =
-        let o = one_more_lem (kind_at kinds s at) (outgoing_at s at) (payload_at s at) index f.frame f.next (ap first_of (sym is)) in
+        let o = one_more_lem (kind_at kinds s at) (outgoing_at s at) (payload_at s at) index (record { frame = f.frame; next = f.next }) (ap first_of (sym is)) in
         let after : frames_at kinds s at f.next ≡ fs = let whole : f ∷ frames_at kinds s at f.next ≡ f ∷ fs = sym o.0 ∙ is in cc in
         (refl, rw (time_is limits kinds s low high at m e) (rw (left_on at m f.next (position + 1) e) (rw after)))
 
-    good_step : (at m : ℕ) → next at ≡ some m → Good m → Good at
+    good_step : (at m : ℕ) → next at ≡ Some m → Good m → Good at
     good_step at m e ih index position =
         rw (left_on at m index position e) (rw (step_on_lem limits kinds s p at m index position e) (good_frames at m index position e ih (frames_at kinds s at index) refl))
 
@@ -122,10 +122,10 @@ module _ (limits : Limits) (kinds s : List ℕ) (low : 630822816000000000 ≤ li
     abbrev Before : ℕ → Type 0
     Before at = (count : ℕ) → (ys : List Row) × ((takes at count).rows ++ ys ≡ left at 0 0)
 
-    before_stop : (at : ℕ) → next at ≡ none → Before at
+    before_stop : (at : ℕ) → next at ≡ None → Before at
     before_stop at e count = (left at 0 0, rw (taken_stops next (rows_at kinds s) (length s) steps at count e))
 
-    before_step : (at m : ℕ) → next at ≡ some m → Before m → Before at
+    before_step : (at m : ℕ) → next at ≡ Some m → Before m → Before at
     before_step at m e ih count =
         rw (taken_on next (rows_at kinds s) (length s) steps at m count e)
         (either (eqb count 0)
@@ -138,11 +138,11 @@ module _ (limits : Limits) (kinds s : List ℕ) (low : 630822816000000000 ≤ li
     before : (at : ℕ) → Before at
     before = by_records next (length s) steps Before before_stop before_step
 
-    pub filled : (start count : ℕ) → rows_of limits kinds s (start_place start) (length (takes start count).rows) ≡ gapped none (takes start count).rows
+    pub filled : (start count : ℕ) → rows_of limits kinds s (start_place start) (length (takes start count).rows) ≡ gapped None (takes start count).rows
     unfolding rows_left
     filled start count =
         let t = takes start count in
         let first = before start count in
-        let is : rows_left (start_place start) ≡ gapped none (t.rows ++ first.0) = ap (gapped none) (sym first.1) in
-        let many : length t.rows ≤ length (rows_left (start_place start)) = omega (arith, ap length is, length_gapped none (t.rows ++ first.0), length-append t.rows first.0) in
-        steps_rows (length t.rows) (start_place start) (sound_start start) many ∙ rw is (front none t.rows first.0)
+        let is : rows_left (start_place start) ≡ gapped None (t.rows ++ first.0) = ap (gapped None) (sym first.1) in
+        let many : length t.rows ≤ length (rows_left (start_place start)) = omega (arith, ap length is, length_gapped None (t.rows ++ first.0), length-append t.rows first.0) in
+        steps_rows (length t.rows) (start_place start) (sound_start start) many ∙ rw is (front None t.rows first.0)

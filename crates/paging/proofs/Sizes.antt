@@ -6,7 +6,7 @@ use lib.Dec.{ltb, eqb}
 use lib.IntN.{ℤ}
 use lib.ListN.{length, drop, length-append, length-take}
 use mathlib.Core.List.{List}
-use mathlib.Core.Option.{Option, none, some}
+use Rattle.std.specs.Prelude.{Option, None, Some}
 use mathlib.Core.Path.{◌≡◌, refl, sym, ap, ◌∙◌}
 use native.Mathlib.Omega.{arith}
 use Rattle.choice.proofs.Choice.{by_choice}
@@ -62,8 +62,8 @@ NotFull t = t.refusal ≡ 7 → ⊥
 
 -- a search is not refused with 7
 search_by : (start all : ℕ) (o : Option ℕ) → (judged_of start all o).refusal ≡ 7 → ⊥
-search_by start all none z = omega arith
-search_by start all (some at) z = omega arith
+search_by start all None z = omega arith
+search_by start all (Some at) z = omega arith
 
 search_room : (next : ℕ → Option ℕ) (n from window : ℕ) → (searched next n from window).refusal ≡ 7 → ⊥
 unfolding searched
@@ -91,7 +91,7 @@ module _ (limits : Limits) (kinds s : List ℕ) where
   takes_at at count = taken next rows n at count
 
   -- a record's rows are fewer than its bytes
-  few : (at m : ℕ) → next at ≡ some m → length (rows at) + at ≤ m
+  few : (at m : ℕ) → next at ≡ Some m → length (rows at) + at ≤ m
   few at m e = omega (arith, rows_most kinds s at, length-take (length_at s at) (drop (at + payload_part) s), (some_valid limits kinds s at m e).1)
 
   -- so are those of the records that a page takes

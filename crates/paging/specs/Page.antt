@@ -1,6 +1,5 @@
 -- A page, over a record test, the rows of the record at a place, the trace's length n and the time before the page, if one is given.
-use Rattle.std.specs.Prelude.{ℕ, ◌-◌, ltb, eqb, ℤ, length, Bool, true, false, cond, List, [], ◌∷◌, ◌++◌}
-use Rattle.std.proofs.Math.Option.{Option, some}
+use Rattle.std.specs.Prelude.{ℕ, ◌-◌, ltb, eqb, ℤ, length, Bool, true, false, cond, List, [], ◌∷◌, ◌++◌, Option, None, Some, Result, Ok, Err}
 use Rattle.rows.specs.Rows.{rows_at}
 use Rattle.rows.specs.declared.Row.{Row}
 use Rattle.record.specs.Record.{Limits, next_at}
@@ -8,7 +7,8 @@ use Rattle.resync.specs.Search.{SearchTold, searched, default_window}
 use Rattle.seam.specs.Walk.{walk}
 use Rattle.steps.specs.Step.{gap_of}
 use Rattle.paging.specs.declared.Page.{Page}
-use Rattle.paging.specs.declared.Page.TheVariants.{More, Last, TraceTooLong, WindowTooLong, TableTooShort}
+use Rattle.paging.specs.declared.PageError.{PageError}
+use Rattle.paging.specs.declared.PageError.TheVariants.{TraceTooLong, WindowTooLong, TableTooShort}
 
 abbrev pub with_gap : ℤ → Row → Row
 with_gap gap r =
@@ -30,7 +30,7 @@ with_gap gap r =
 -- the rows, each with its gap to the one before
 unfoldable pub gapped : Option ℤ → List Row → List Row
 gapped before [] = []
-gapped before (r ∷ rs) = with_gap (gap_of before r.millis) r ∷ gapped (some r.millis) rs
+gapped before (r ∷ rs) = with_gap (gap_of before r.millis) r ∷ gapped (Some r.millis) rs
 
 -- the rows of the records that are taken, and the end of the last
 pub record Taken : Type 0 where
@@ -100,10 +100,17 @@ page_from next rows n before offset count room = page_of next rows n before offs
 abbrev pub page_at : Limits → List ℕ → List ℕ → Option ℤ → ℕ → ℕ → ℕ → PageGiven
 page_at limits kinds s before offset count room = page_from (next_at limits kinds s) (rows_at kinds s) (length s) before offset count room
 
+-- each refusal's number
+abbrev pub page_refusal : PageError → ℕ
+page_refusal TraceTooLong = 1
+page_refusal WindowTooLong = 5
+page_refusal TableTooShort = 7
+
 -- each answer in the paper's numbers
-abbrev pub told_page : Page → PageTold
-told_page (More start size next) = going_on start size next
-told_page (Last start size) = last_page start size
-told_page TraceTooLong = page_refused 1
-told_page WindowTooLong = page_refused 5
-told_page TableTooShort = page_refused 7
+abbrev pub going_or_last : ℕ → ℕ → Option ℕ → PageTold
+going_or_last start size (Some next) = going_on start size next
+going_or_last start size None = last_page start size
+
+abbrev pub told_page : Result Page PageError → PageTold
+told_page (Ok page) = going_or_last page.start page.size page.next
+told_page (Err refusal) = page_refused (page_refusal refusal)

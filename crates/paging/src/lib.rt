@@ -1,80 +1,94 @@
 // A page planned, by value: its answer, and from which place how many rows are to be written. `cursor` writes them into a lent table.
 #![tactic(auto)]
 
-ghost use Rattle.std.specs.Prelude.{◌≡◌, ◌+◌, ◌≤◌, length, take, drop};
+ghost use Rattle.std.specs.Prelude.{◌≡◌, ◌≤◌, length, None};
 ghost use Rattle.record.specs.Record.{plausible, next_at};
-ghost use Rattle.std.proofs.Math.Option.{none};
-ghost use Rattle.layout.specs.Layout.{trace_limit};
-ghost use Rattle.rows.specs.Frames.{frames_from};
+ghost use Rattle.resync.specs.Search.{search_refusal};
 ghost use Rattle.rows.specs.Rows.{rows_at};
-ghost use Rattle.paging.specs.Page.{Taken, taken, lent_to, next_told, page_at, told_page};
+ghost use Rattle.paging.specs.Page.{taken, lent_to, page_at, page_refusal, told_page};
 ghost use Rattle.steps.specs.Step.{start_place};
 ghost use Rattle.paging.specs.Plan.{Planned};
+ghost use Rattle.paging.specs.declared.PageError.TheVariants as Why;
 
-use layout::RECORD_HEADER;
-use record::{Record, RecordHeader};
-use resync::{DEFAULT_WINDOW, Search};
-use steps::Place;
+use layout::{Readable, Refusal, Trace, TraceTooLong};
+use resync::{DEFAULT_WINDOW, SearchError};
+use steps::{Place, ValidRecord};
 
-// What a page answers: where it started, how many rows it wrote, and where the next one goes on.
-#[derive(Clone, Copy)]
-pub enum Page {
-    More {
-        start: usize,
-        size: usize,
-        next: usize,
-    },
-    Last {
-        start: usize,
-        size: usize,
-    },
+// A page: where it started, how many rows it wrote, and where the next one goes on, if there is more.
+#[derive(Clone, Copy, Debug, PartialEq, Eq)]
+pub struct Page {
+    pub start: usize,
+    pub size: usize,
+    pub next: Option<usize>,
+}
+
+// Why there is none: the trace is over the limit, the search's window passes the largest offset, or the rows outnumber the table.
+#[derive(Clone, Copy, Debug, PartialEq, Eq)]
+pub enum PageError {
     TraceTooLong,
     WindowTooLong,
     TableTooShort,
 }
 
+impl Refusal for PageError {
+    ghost number = { page_refusal };
+
+    fn number(self) -> u32 {
+        match self {
+            PageError::TraceTooLong => 1,
+            PageError::WindowTooLong => 5,
+            PageError::TableTooShort => 7,
+        }
+    }
+}
+
+impl From<TraceTooLong> for PageError {
+    ghost from_gives = { λ _ e. e ≡ Why.TraceTooLong };
+
+    fn from(_refusal: TraceTooLong) -> Self {
+        PageError::TraceTooLong
+    }
+}
+
+impl From<SearchError> for PageError {
+    ghost from_gives = { λ search e. page_refusal e ≡ search_refusal search };
+
+    fn from(refusal: SearchError) -> Self {
+        match refusal {
+            SearchError::TraceTooLong => PageError::TraceTooLong,
+            SearchError::WindowTooLong => PageError::WindowTooLong,
+        }
+    }
+}
+
 // The rows of the records that a page takes, and the end of the last.
 #[derive(Clone, Copy)]
 struct Counted {
-    pub rows: usize,
-    pub end: usize,
+    rows: usize,
+    end: usize,
 }
 
 // A page's answer, and from which place how many rows are to be written.
-#[derive(Clone, Copy)]
+#[derive(Clone, Copy, Debug, PartialEq, Eq)]
 pub struct Plan {
-    pub page: Page,
+    pub page: Result<Page, PageError>,
     pub place: Place,
     pub rows: usize,
 }
 
-// How many rows a record gives.
-fn rows_in(s: &[u8], at: usize, header: RecordHeader) -> usize
-    requires { at + 14 + header.payload_len ≤ length s.now }
-    ensures { result ≡ length (frames_from header.kind header.is_outcome (take header.payload_len (drop (at + 13) s.now)) 0) }
-{
-    let first = at + RECORD_HEADER;
-    let end = first + header.payload_len;
-    let payload = &s[first..end];
-    rows::frame_count(payload, header.kind, header.is_outcome)
-}
-
 // Counts the rows of the records that a page takes: whole records, until there are `count` rows or no valid record comes.
-fn count_rows(kinds: &[u8; 256], s: &[u8], start: usize, count: usize) -> Counted
-    requires { (length s.now ≤ trace_limit) × (start ≤ length s.now) }
-    ensures { (result.rows ≡ length (taken (next_at plausible kinds.now s.now) (rows_at kinds.now s.now) (length s.now) start count).rows)
-        × (result.end ≡ (taken (next_at plausible kinds.now s.now) (rows_at kinds.now s.now) (length s.now) start count).end) }
+fn count_rows(trace: Readable, start: usize, count: usize) -> Counted
+    requires { start ≤ length trace.bytes.now }
+    ensures { let kinds = trace.entry.kinds.now in let s = trace.entry.bytes.now in
+        let t = taken (next_at plausible kinds s) (rows_at kinds s) (length s) start count in (result.rows ≡ length t.rows) × (result.end ≡ t.end) }
 {
     let mut at = start;
     let mut total = 0;
     while total < count {
-        let Record::Valid { header } = record::read_record(kinds, s, at) else {
-            return Counted {
-                rows: total,
-                end: at,
-            };
+        let Some(ValidRecord { header, payload }) = steps::valid_record(trace, at) else {
+            break;
         };
-        total += rows_in(s, at, header);
+        total += rows::frame_count(payload, header.kind, header.is_outcome);
         at = header.next_offset;
     }
     Counted {
@@ -83,82 +97,68 @@ fn count_rows(kinds: &[u8; 256], s: &[u8], start: usize, count: usize) -> Counte
     }
 }
 
-// The first place of a record, with no time before.
-fn start_place(offset: usize) -> Place
-    ensures { result ≡ start_place offset }
+// The page that starts at a place. Its rows are counted, and fit the table's room, or it is refused.
+fn page_of(trace: Readable, start: usize, count: usize, room: usize) -> Result<Page, PageError>
+    requires { start ≤ length trace.bytes.now }
+    ensures { let kinds = trace.entry.kinds.now in let s = trace.entry.bytes.now in
+        told_page result ≡ (lent_to (length s) None room count start (taken (next_at plausible kinds s) (rows_at kinds s) (length s) start count)).told }
 {
-    Place {
-        offset,
-        index: 0,
-        position: 0,
-        has_previous: false,
-        previous: 0,
+    let counted = count_rows(trace, start, count);
+    if room < counted.rows {
+        return Err(PageError::TableTooShort);
     }
+    let is_more = (0 < count) & (counted.end < trace.bytes.len());
+    Ok(Page {
+        start,
+        size: counted.rows,
+        next: is_more.then_some(counted.end),
+    })
 }
 
-// A plan that writes nothing.
-fn no_rows(page: Page, start: usize) -> Plan
-    ensures { (result.page ≡ page) × (result.place ≡ start_place start) × (result.rows ≡ 0) }
+// A page: it starts at the first boundary from its offset on.
+fn page_at(trace: Readable, offset: usize, count: usize, room: usize) -> Result<Page, PageError>
+    ensures { told_page result ≡ (page_at plausible trace.entry.kinds.now trace.entry.bytes.now None offset count room).told }
 {
-    let place = start_place(start);
+    let Some(start) = resync::search_from(trace, offset, DEFAULT_WINDOW)?.offset else {
+        return Ok(Page {
+            start: offset,
+            size: 0,
+            next: None,
+        });
+    };
+    page_of(trace, start, count, room)
+}
+
+// A page's answer, with its rows to be written: as many as its size, from the first place of the record where it starts.
+fn plan_of(page: Result<Page, PageError>) -> Plan
+    ensures page { result.page ≡ page }
+    ensures place { result.place ≡ start_place (told_page page).start }
+    ensures rows { result.rows ≡ (told_page page).size }
+{
+    let (start, rows) = match page {
+        Ok(page) => (page.start, page.size),
+        Err(_) => (0, 0),
+    };
     Plan {
         page,
-        place,
-        rows: 0,
+        place: Place::start(start),
+        rows,
     }
 }
 
-// A page's answer, of the rows counted.
-fn page_of(s: &[u8], start: usize, count: usize, size: usize, end: usize) -> Page
-    ensures { (t : Taken) → size ≡ length t.rows → end ≡ t.end → (count ≡ 0 → size ≡ 0) → told_page result ≡ next_told (length s.now) count start t }
+// The plan of a page of a trace within the limit.
+pub fn plan_from(trace: Readable, offset: usize, count: usize, room: usize) -> Plan
+    ensures { Planned plausible trace.entry.kinds.now trace.entry.bytes.now room (page_at plausible trace.entry.kinds.now trace.entry.bytes.now None offset count room) result }
 {
-    if count == 0 {
-        return Page::Last { start, size };
-    }
-    if end < s.len() {
-        return Page::More {
-            start,
-            size,
-            next: end,
-        };
-    }
-    Page::Last { start, size }
+    plan_of(page_at(trace, offset, count, room))
 }
 
-// The plan of a page that starts at a place: its rows are counted, and fit the table's room, or it writes nothing.
-fn plan_from(kinds: &[u8; 256], s: &[u8], start: usize, count: usize, room: usize) -> Plan
-    requires { (length s.now ≤ trace_limit) × (start ≤ length s.now) }
-    ensures { Planned plausible kinds.now s.now room
-        (lent_to (length s.now) none room count start (taken (next_at plausible kinds.now s.now) (rows_at kinds.now s.now) (length s.now) start count)) result }
+// The same of any trace: of one over the limit nothing is written.
+pub fn plan_page(trace: Trace, offset: usize, count: usize, room: usize) -> Plan
+    ensures { Planned plausible trace.entry.kinds.now trace.entry.bytes.now room (page_at plausible trace.entry.kinds.now trace.entry.bytes.now None offset count room) result }
 {
-    let counted = count_rows(kinds, s, start, count);
-    let rows = counted.rows;
-    let end = counted.end;
-    if room < rows {
-        return no_rows(Page::TableTooShort, 0);
-    }
-    let page = page_of(s, start, count, rows, end);
-    let place = start_place(start);
-    Plan { page, place, rows }
-}
-
-// The plan of a page: it starts at the first boundary from its offset on.
-pub fn plan_page(kinds: &[u8; 256], s: &[u8], offset: usize, count: usize, room: usize) -> Plan
-    ensures { Planned plausible kinds.now s.now room (page_at plausible kinds.now s.now none offset count room) result }
-{
-    match resync::next_record_at(kinds, s, offset, DEFAULT_WINDOW) {
-        Search::Found {
-            offset: start,
-            judged: _,
-        } => plan_from(kinds, s, start, count, room),
-        Search::Nothing { judged: _ } => no_rows(
-            Page::Last {
-                start: offset,
-                size: 0,
-            },
-            offset,
-        ),
-        Search::TraceTooLong => no_rows(Page::TraceTooLong, 0),
-        Search::WindowTooLong => no_rows(Page::WindowTooLong, 0),
+    match trace.readable() {
+        Ok(trace) => plan_from(trace, offset, count, room),
+        Err(refusal) => plan_of(Err(refusal.into())),
     }
 }

@@ -4,7 +4,7 @@ use lib.Dec.{eqb}
 use lib.IntN.{ℤ}
 use lib.Signed.{lt_z}
 use mathlib.Core.Bool.{true, false, or-true, or-false}
-use mathlib.Core.Option.{Option, none, some}
+use Rattle.std.specs.Prelude.{Option, None, Some}
 use mathlib.Core.Path.{◌≡◌, refl, sym, ap, subst, ◌∙◌}
 use native.Mathlib.Omega.{arith}
 use Rattle.layout.specs.Layout.{header_size, trace_limit}
@@ -31,7 +31,7 @@ module _ (next : ℕ → Option ℕ) (n : ℕ) (steps : Steps next n) where
   stays_inside (more {at} {m} {k} e u) h = stays_inside u (steps.inside at m e)
 
   -- one record more at the end
-  pub one_after : {to at k end : ℕ} → Unbroken next to at k → next to ≡ some end → Unbroken next end at (suc k)
+  pub one_after : {to at k end : ℕ} → Unbroken next to at k → next to ≡ Some end → Unbroken next end at (suc k)
   one_after ends f = more f ends
   one_after (more e u) f = more e (one_after u f)
 
@@ -44,21 +44,21 @@ module _ (next : ℕ → Option ℕ) (n : ℕ) (steps : Steps next n) where
       between u (subst (λ (x : ℕ). Unbroken next b x k) (sym same) v) l
 
   -- a record stands where records lead on from, to one
-  pub stands : {to at k end : ℕ} → Unbroken next to at k → next to ≡ some end → (m : ℕ) × (next at ≡ some m)
+  pub stands : {to at k end : ℕ} → Unbroken next to at k → next to ≡ Some end → (m : ℕ) × (next at ≡ Some m)
   stands {end = end} ends f = (end, f)
   stands (more {m = m} e u) f = (m, e)
 
   -- a record before a boundary is one: three follow it, or fewer end at the end
-  two_before : (at m p : ℕ) → next at ≡ some m → next m ≡ some p → (o : Option ℕ) → next p ≡ o → boundary next n m ≡ true → boundary next n at ≡ true
+  two_before : (at m p : ℕ) → next at ≡ Some m → next m ≡ Some p → (o : Option ℕ) → next p ≡ o → boundary next n m ≡ true → boundary next n at ≡ true
   unfolding boundary
-  two_before at m p e f (some q) g is = simp (e, f, g)
-  two_before at m p e f none g is =
+  two_before at m p e f (Some q) g is = simp (e, f, g)
+  two_before at m p e f None g is =
       let last : eqb p n ≡ true = sym (or-false (eqb p n)) ∙ simp (f, g) at is in
       simp (e, f, g, last, or-true)
 
-  one_before : (at m : ℕ) → next at ≡ some m → boundary next n m ≡ true → boundary next n at ≡ true
+  one_before : (at m : ℕ) → next at ≡ Some m → boundary next n m ≡ true → boundary next n at ≡ true
   one_before at m e is =
-      let p : (p : ℕ) × (next m ≡ some p) = boundary_record next n m is in
+      let p : (p : ℕ) × (next m ≡ Some p) = boundary_record next n m is in
       two_before at m p.0 e p.1 (next p.0) refl is
 
   pub boundary_before : {to at k : ℕ} → Unbroken next to at k → boundary next n to ≡ true → boundary next n at ≡ true
@@ -69,25 +69,25 @@ module _ (t : Trace) (steps : Steps t.next t.size) (target : ℤ) where
   abbrev plain : ℕ → Option ℕ
   plain at = plain_from t target at
 
-  pub plain_stops : (at : ℕ) → t.next at ≡ none → plain at ≡ none
+  pub plain_stops : (at : ℕ) → t.next at ≡ None → plain at ≡ None
   unfolding plain_from
-  plain_stops at e = stopped t.next t.size steps (λ (end : ℕ). none) (or_later t target) t.size at e
+  plain_stops at e = stopped t.next t.size steps (λ (end : ℕ). None) (or_later t target) t.size at e
 
-  plain_on : (at m : ℕ) → t.next at ≡ some m → plain at ≡ or_later t target at (plain m)
+  plain_on : (at m : ℕ) → t.next at ≡ Some m → plain at ≡ or_later t target at (plain m)
   unfolding plain_from
-  plain_on at m e = goes_on_lem t.next t.size steps (λ (end : ℕ). none) (or_later t target) at m e
+  plain_on at m e = goes_on_lem t.next t.size steps (λ (end : ℕ). None) (or_later t target) at m e
 
-  pub plain_found : (at m : ℕ) → t.next at ≡ some m → lt_z (t.millis at) target ≡ false → plain at ≡ some at
+  pub plain_found : (at m : ℕ) → t.next at ≡ Some m → lt_z (t.millis at) target ≡ false → plain at ≡ Some at
   plain_found at m e q = plain_on at m e ∙ simp q
 
-  pub plain_passes : (at m : ℕ) → t.next at ≡ some m → lt_z (t.millis at) target ≡ true → plain at ≡ plain m
+  pub plain_passes : (at m : ℕ) → t.next at ≡ Some m → lt_z (t.millis at) target ≡ true → plain at ≡ plain m
   plain_passes at m e q = plain_on at m e ∙ simp q
 
 -- a search meets the first boundary from its place on, if it lies in the window
 pub met_next :
     (t : Trace) → Steps t.next t.size → t.size ≤ trace_limit → (from at m : ℕ) → header_size ≤ from → from ≤ at → at < from + default_window
     → ((j : ℕ) → from ≤ j → j < at → boundary t.next t.size j ≡ false)
-    → boundary t.next t.size at ≡ true → t.next at ≡ some m → met_at at m (t.millis at) ≡ meet t from
+    → boundary t.next t.size at ≡ true → t.next at ≡ Some m → met_at at m (t.millis at) ≡ meet t from
 unfolding meet met_of
 met_next t steps fits from at m low further near before is e =
     let inside : at < t.size = omega (arith, steps.grows at m e, steps.inside at m e) in
@@ -100,5 +100,5 @@ met_next t steps fits from at m low further near before is e =
 -- from a boundary it meets that one
 pub met_here :
     (t : Trace) → Steps t.next t.size → t.size ≤ trace_limit → (at m : ℕ) → header_size ≤ at
-    → boundary t.next t.size at ≡ true → t.next at ≡ some m → met_at at m (t.millis at) ≡ meet t at
+    → boundary t.next t.size at ≡ true → t.next at ≡ Some m → met_at at m (t.millis at) ≡ meet t at
 met_here t steps fits at m low is e = met_next t steps fits at at m low (omega arith) (omega arith) (λ j l h. absurd (omega arith)) is e

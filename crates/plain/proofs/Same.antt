@@ -8,7 +8,7 @@ use lib.Signed.{lt_z, ◌≤ℤ◌, lt_z_yes, lt_z_no, <ℤ-≤ℤ_trans, clash_
 use mathlib.Core.Bool.{Bool, true, false, cond, true≢false}
 use mathlib.Core.List.{List}
 use mathlib.Core.Logic.{◌↔◌}
-use mathlib.Core.Option.{Option, none, some}
+use Rattle.std.specs.Prelude.{Option, None, Some}
 use mathlib.Core.Path.{◌≡◌, refl, sym, ap, subst, ◌∙◌}
 use native.Mathlib.Omega.{arith}
 use Rattle.choice.proofs.Choice.{right_true, by_choice}
@@ -68,7 +68,7 @@ module _ (t : Trace) (steps : Steps t.next t.size) (target : ℤ) where
     module _ (parted : Parted t target first) (no_earlier : NoEarlierBoundary t target first) where
       -- all records up to an earlier one are earlier, so that the plain walk passes them
       passed :
-          {to at j k end : ℕ} → Unbroken next at first j → Unbroken next to at k → next to ≡ some end → lt_z (t.millis to) target ≡ true
+          {to at j k end : ℕ} → Unbroken next at first j → Unbroken next to at k → next to ≡ Some end → lt_z (t.millis to) target ≡ true
           → (lt_z (t.millis at) target ≡ true) × (plain at ≡ plain end)
       passed {to = to} {end = end} lead ends f q = (q, plain_passes t steps target to end f q)
       passed {j = j} lead (more {at} {m} {k} e u) f q =
@@ -110,7 +110,7 @@ module _ (t : Trace) (steps : Steps t.next t.size) (target : ℤ) where
       module _ (elsewhere : (at : ℕ) → Kept at → boundary next n at ≡ false → walk at ≡ plain at) where
         -- the walk from a kept place
         walks_by :
-            (k at m : ℕ) → n - at ≤ suc k → Kept at → next at ≡ some m → met_at at m (t.millis at) ≡ meet t at → (b : Bool) → lt_z (t.millis at) target ≡ b
+            (k at m : ℕ) → n - at ≤ suc k → Kept at → next at ≡ Some m → met_at at m (t.millis at) ≡ meet t at → (b : Bool) → lt_z (t.millis at) target ≡ b
             → ((i : ℕ) → n - i ≤ k → Kept i → walk i ≡ plain i) → walk at ≡ plain at
         walks_by k at m enough kept e is true q ih =
             let grows : at + 15 ≤ m = steps.grows at m e in
@@ -125,7 +125,7 @@ module _ (t : Trace) (steps : Steps t.next t.size) (target : ℤ) where
 
         walks_at : (k at : ℕ) → n - at ≤ suc k → Kept at → (b : Bool) → boundary next n at ≡ b → ((i : ℕ) → n - i ≤ k → Kept i → walk i ≡ plain i) → walk at ≡ plain at
         walks_at k at enough kept true is ih =
-            let m : (m : ℕ) × (next at ≡ some m) = boundary_record next n at is in
+            let m : (m : ℕ) × (next at ≡ Some m) = boundary_record next n at is in
             let low : header_size ≤ at = omega (arith, first_met_lem.start, leads_on next n steps kept.leads) in
             walks_by k at m.0 enough kept m.1 (met_here t steps first_met_lem.fits at m.0 low is m.1) (lt_z (t.millis at) target) refl ih
         walks_at k at enough kept false is ih = elsewhere at kept is
@@ -186,9 +186,9 @@ module _ (t : Trace) (steps : Steps t.next t.size) (target : ℤ) where
         absurd (true≢false (sym (boundary_before next n steps run.1 m.is_boundary) ∙ other))
 
     -- the plain walk finds none either: the record that it finds is a boundary, and that would make the place one
-    plain_none : AnswerIsBoundary t target first → (at : ℕ) → Kept at → boundary next n at ≡ false → (o : Option ℕ) → plain at ≡ o → plain at ≡ none
-    plain_none boundaries at kept other none e = e
-    plain_none boundaries at kept other (some r) e =
+    plain_none : AnswerIsBoundary t target first → (at : ℕ) → Kept at → boundary next n at ≡ false → (o : Option ℕ) → plain at ≡ o → plain at ≡ None
+    plain_none boundaries at kept other None e = e
+    plain_none boundaries at kept other (Some r) e =
         let is : FirstAtOrAfter t target at r = found_first t steps target at r e in
         absurd (true≢false (sym (boundary_before next n steps is.begins.leads (boundaries r (kept.same ∙ e))) ∙ other))
 
@@ -203,15 +203,15 @@ module _ (t : Trace) (steps : Steps t.next t.size) (target : ℤ) where
     unfolding plain_of
     plain_is = simp (le-ltb trace_limit n (first_met_lem p.has_first).fits, p.has_first)
 
-    told_some : (o : Option ℕ) (at : ℕ) → plain_told (some at) ≡ plain_told o → o ≡ some at
-    told_some none at e = absurd (true≢false (ap (λ (x : PlainTold). x.is_found) e))
-    told_some (some r) at e = ap some (sym (ap (λ (x : PlainTold). x.offset) e))
+    told_some : (o : Option ℕ) (at : ℕ) → plain_told (Some at) ≡ plain_told o → o ≡ Some at
+    told_some None at e = absurd (true≢false (ap (λ (x : PlainTold). x.is_found) e))
+    told_some (Some r) at e = ap Some (sym (ap (λ (x : PlainTold). x.offset) e))
 
     -- where the seeks agree, it is a boundary, as all that the whole seek finds is
     boundary_by : SameAsPlain t target → AnswerIsBoundary t target first
     boundary_by same at e =
-        let found : same.found ≡ some at = told_some same.found at (ap plain_told (sym e) ∙ sym plain_is ∙ same.plain) in
-        let whole : seek_of t target ≡ seek_told same.halvings (some at) = same.whole ∙ ap (seek_told same.halvings) found in
+        let found : same.found ≡ Some at = told_some same.found at (ap plain_told (sym e) ∙ sym plain_is ∙ same.plain) in
+        let whole : seek_of t target ≡ seek_told same.halvings (Some at) = same.whole ∙ ap (seek_told same.halvings) found in
         let right : _ = found_right t steps target (ap (λ (x : SeekTold). x.is_found) whole) in
         ap (λ (x : SeekTold). boundary next n x.offset) (sym whole) ∙ right.0
 
@@ -240,7 +240,7 @@ pub no_first_either : (t : Trace) (target : ℤ) → (first_met t).is_found ≡ 
 unfolding plain_of seek_of
 no_first_either t target e = simp e (either_by (ltb trace_limit t.size))
   where
-    either_by : (b : Bool) → answer_of (cond b no_seek (seek_told 0 none)) ≡ cond b no_plain (plain_told none)
+    either_by : (b : Bool) → answer_of (cond b no_seek (seek_told 0 None)) ≡ cond b no_plain (plain_told None)
     either_by true = refl
     either_by false = refl
 

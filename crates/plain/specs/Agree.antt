@@ -1,20 +1,15 @@
 -- What it means that the seeks agree: of the definitions, and of the answers that a caller holds.
-use Rattle.std.specs.Prelude.{ℕ, zero, suc, ◌≤◌, ℤ, ◌≡◌}
-use Rattle.std.proofs.Math.Option.{Option, none, some}
+use Rattle.std.specs.Prelude.{ℕ, zero, suc, ◌≤◌, ℤ, ◌≡◌, Option, None, Some, Result, Ok, Err}
 use Rattle.seek.specs.Seek.{SeekTold, seek_told, seek_of}
 use Rattle.seek.specs.Step.{told_state, start_told, start_at, Driven}
-use Rattle.seek.specs.declared.Found.{Found}
+use Rattle.layout.specs.declared.TraceTooLong.{TraceTooLong}
+use Rattle.resync.specs.declared.SearchError.{SearchError}
 use Rattle.seek.specs.declared.SeekState.{SeekState}
-use Rattle.seek.specs.declared.SeekStart.{SeekStart}
-use Rattle.seek.specs.declared.SeekStart.TheVariants as Start
 use Rattle.seek.specs.declared.SeekStep.{SeekStep}
 use Rattle.seek.specs.declared.SeekStep.TheVariants as Step
 use Rattle.seek.specs.declared.SeekTime.{SeekTime}
-use Rattle.seek.specs.declared.SeekTime.TheVariants as Seek
 use Rattle.span.specs.Met.{Trace}
 use Rattle.plain.specs.Plain.{PlainTold, plain_told, plain_of}
-use Rattle.plain.specs.declared.PlainSeek.{PlainSeek}
-use Rattle.plain.specs.declared.PlainSeek.TheVariants as Plain
 
 -- the whole seek's answer, its number of halvings left out
 abbrev pub answer_of : SeekTold → PlainTold
@@ -34,34 +29,33 @@ pub record SameAsPlain (t : Trace) (target : ℤ) : Type 0 where
 
 -- the stepped seek as a caller drives it: with a state, and with the state of each answer again, so many times at most; what the answer that
 -- is done found
-abbrev pub on_step : SeekStep → (SeekState → Option Found) → Option Found
-on_step (Step.More state) again = again state
-on_step (Step.Scan state) again = again state
-on_step (Step.Done found) again = some found
-on_step Step.TraceTooLong again = none
-on_step Step.WindowTooLong again = none
+abbrev pub on_step : Result SeekStep SearchError → (SeekState → Option (Option ℕ)) → Option (Option ℕ)
+on_step (Ok (Step.More state)) again = again state
+on_step (Ok (Step.Scan state)) again = again state
+on_step (Ok (Step.Done found)) again = Some found
+on_step (Err refusal) again = None
 
-unfoldable pub drive : (SeekState → SeekStep) → ℕ → SeekState → Option Found
-drive step zero state = none
+unfoldable pub drive : (SeekState → Result SeekStep SearchError) → ℕ → SeekState → Option (Option ℕ)
+drive step zero state = None
 drive step (suc turns) state = on_step (step state) (λ (next : SeekState). drive step turns next)
 
 -- what is found, as an answer of the plain seek and as one of the whole seek
-abbrev pub plain_answer : Found → PlainSeek
-plain_answer (Found.At offset) = Plain.Found offset
-plain_answer Found.Nothing = Plain.Nothing
+abbrev pub plain_answer : Option ℕ → Result (Option ℕ) TraceTooLong
+plain_answer found = Ok found
 
-abbrev pub whole_answer : ℕ → Found → SeekTime
-whole_answer halvings (Found.At offset) = Seek.Found offset halvings
-whole_answer halvings Found.Nothing = Seek.Nothing halvings
+abbrev pub whole_answer : ℕ → Option ℕ → Result SeekTime TraceTooLong
+whole_answer halvings found = Ok (record { offset = found; halvings = halvings })
 
 -- what the calls answer: `plain_seek`, `seek_time`, `seek_start`, and `seek_step` for each state. All find the same record, or none: the
 -- stepped seek once enough steps are made
-pub record SameAnswers (plain : PlainSeek) (whole : SeekTime) (start : SeekStart) (step : SeekState → SeekStep) : Type 0 where
-  pub found : Found
+pub record SameAnswers
+    (plain : Result (Option ℕ) TraceTooLong) (whole : Result SeekTime TraceTooLong) (start : Result SeekState TraceTooLong)
+    (step : SeekState → Result SeekStep SearchError) : Type 0 where
+  pub found : Option ℕ
   pub plain_is : plain ≡ plain_answer found
   pub halvings : ℕ
   pub whole_is : whole ≡ whole_answer halvings found
   pub state : SeekState
-  pub starts : start ≡ Start.From state
+  pub starts : start ≡ Ok state
   pub enough : ℕ
-  pub stepped : (turns : ℕ) → enough ≤ turns → drive step turns state ≡ some found
+  pub stepped : (turns : ℕ) → enough ≤ turns → drive step turns state ≡ Some found

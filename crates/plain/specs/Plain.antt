@@ -1,21 +1,19 @@
 -- The plain seek: a walk over the records from the first one.
-use Rattle.std.specs.Prelude.{ℕ, ◌<◌, ltb, ℤ, Bool, true, false, cond, ◌≡◌}
+use Rattle.std.specs.Prelude.{ℕ, ◌<◌, ltb, ℤ, Bool, true, false, cond, ◌≡◌, Option, None, Some, Result, Ok, Err}
 use Rattle.std.specs.Int.Signed.{lt_z}
-use Rattle.std.proofs.Math.Option.{Option, none, some}
 use Rattle.layout.specs.Layout.{trace_limit}
+use Rattle.layout.specs.declared.TraceTooLong.{TraceTooLong}
 use Rattle.seam.specs.Seam.{Unbroken}
 use Rattle.seam.specs.Walk.{walk}
 use Rattle.span.specs.Met.{Trace, first_met}
-use Rattle.plain.specs.declared.PlainSeek.{PlainSeek}
-use Rattle.plain.specs.declared.PlainSeek.TheVariants as Plain
 
 -- what the record at a place makes of what the later ones answer: itself, unless it is earlier than the target
 abbrev pub or_later : Trace → ℤ → ℕ → Option ℕ → Option ℕ
-or_later t target at later = cond (lt_z (t.millis at) target) later (some at)
+or_later t target at later = cond (lt_z (t.millis at) target) later (Some at)
 
 -- 02: "walks the records .., each where the last ended, up to the first invalid one, and returns the first at or after the time, or none"
 unfoldable pub plain_from : Trace → ℤ → ℕ → Option ℕ
-plain_from t target at = walk t.next (λ (end : ℕ). none) (or_later t target) t.size at
+plain_from t target at = walk t.next (λ (end : ℕ). None) (or_later t target) t.size at
 
 -- the same, said of the answer (`found_first` and `none_found` of proofs/Meaning.antt). One of the records from a place on begins here: so
 -- many of them, each where the last ended, lead from that place to this one, and a valid record stands here
@@ -23,7 +21,7 @@ pub record Begins (t : Trace) (first at : ℕ) : Type 0 where
   pub before : ℕ
   pub leads : Unbroken t.next at first before
   pub end : ℕ
-  pub valid : t.next at ≡ some end
+  pub valid : t.next at ≡ Some end
 
 -- "the first at or after the time": one of the records, not earlier than the target, and all those before it are
 pub record FirstAtOrAfter (t : Trace) (target : ℤ) (first at : ℕ) : Type 0 where
@@ -42,8 +40,8 @@ pub record PlainTold : Type 0 where
   pub offset : ℕ
 
 abbrev pub plain_told : Option ℕ → PlainTold
-plain_told none = record { refusal = 0; is_found = false; offset = 0 }
-plain_told (some offset) = record { refusal = 0; is_found = true; offset = offset }
+plain_told None = record { refusal = 0; is_found = false; offset = 0 }
+plain_told (Some offset) = record { refusal = 0; is_found = true; offset = offset }
 
 abbrev pub no_plain : PlainTold
 no_plain = record { refusal = 1; is_found = false; offset = 0 }
@@ -53,10 +51,9 @@ no_plain = record { refusal = 1; is_found = false; offset = 0 }
 unfoldable pub plain_of : Trace → ℤ → PlainTold
 plain_of t target =
     cond (ltb trace_limit t.size) no_plain
-    (cond (first_met t).is_found (plain_told (plain_from t target (first_met t).offset)) (plain_told none))
+    (cond (first_met t).is_found (plain_told (plain_from t target (first_met t).offset)) (plain_told None))
 
 -- each answer in the paper's numbers
-abbrev pub told_plain : PlainSeek → PlainTold
-told_plain (Plain.Found offset) = plain_told (some offset)
-told_plain Plain.Nothing = plain_told none
-told_plain Plain.TraceTooLong = no_plain
+abbrev pub told_plain : Result (Option ℕ) TraceTooLong → PlainTold
+told_plain (Ok found) = plain_told found
+told_plain (Err refusal) = no_plain

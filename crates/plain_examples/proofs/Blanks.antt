@@ -3,7 +3,7 @@ use Prim.Native.Nat.{ℕ, zero, suc, ◌+◌}
 use lib.ListN.{length, length-append, length-replicate}
 use mathlib.Core.Bool.{true}
 use mathlib.Core.List.{List, [], ◌∷◌, ◌++◌, append_assoc, append-nil}
-use mathlib.Core.Option.{some}
+use Rattle.std.specs.Prelude.{Some}
 use mathlib.Core.Path.{◌≡◌, refl, sym, ap, subst, ◌∙◌}
 use native.Mathlib.Omega.{arith}
 use Rattle.ticks.specs.Ticks.{cleared, unix_millis}
@@ -53,7 +53,7 @@ pub record Head (ticks size : ℕ) : Type 0 where
 module _ (kinds : List ℕ) (known : kind_of kinds 0xFE ≡ 3) {ticks size : ℕ} (h : Head ticks size) where
   pub record_there :
       {s : List ℕ} {at : ℕ} (payload rest : List ℕ) → length payload ≡ size → From s at (head ticks size ++ (payload ++ 0xFE ∷ rest))
-      → (next_at plausible kinds s at ≡ some (at + 14 + size)) × (unix_millis (ticks_at s at) ≡ unix_millis ticks)
+      → (next_at plausible kinds s at ≡ Some (at + 14 + size)) × (unix_millis (ticks_at s at) ≡ unix_millis ticks)
   record_there {s} {at} payload rest fits f = (
     stands_there plausible kinds s (head ticks size) payload rest at ticks size refl h.says_ticks h.says_size f known fits h.in_range h.in_time,
     ap unix_millis (ticks_there plausible kinds s (head ticks size) payload rest at ticks size refl h.says_ticks h.says_size f),
@@ -64,7 +64,7 @@ module _ (kinds : List ℕ) (known : kind_of kinds 0xFE ≡ 3) {ticks size : ℕ
 
   pub blank_there :
       {s : List ℕ} {at : ℕ} (rest : List ℕ) → From s at (blank ticks size ++ rest)
-      → (next_at plausible kinds s at ≡ some (at + 14 + size)) × (unix_millis (ticks_at s at) ≡ unix_millis ticks)
+      → (next_at plausible kinds s at ≡ Some (at + 14 + size)) × (unix_millis (ticks_at s at) ≡ unix_millis ticks)
   blank_there {s} {at} rest f = record_there (zeros size) rest (length_zeros size) (subst (From s at) (blank_then rest) f)
 
   length_blank : length (blank ticks size) ≡ 14 + size

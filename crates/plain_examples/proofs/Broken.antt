@@ -6,7 +6,7 @@ use lib.IntN.{ℤ}
 use lib.Signed.{lt_z}
 use mathlib.Core.Bool.{Bool, true, false, true≢false}
 use mathlib.Core.List.{[], ◌∷◌, Memᴰ}
-use mathlib.Core.Option.{Option, none, some}
+use Rattle.std.specs.Prelude.{Option, None, Some}
 use mathlib.Core.Path.{◌≡◌, refl, sym, ap, subst, ◌∙◌}
 use native.Mathlib.Omega.{arith}
 use Rattle.layout.specs.Layout.{trace_limit}
@@ -27,7 +27,7 @@ use Rattle.plain_examples.proofs.Lines.{of_three, Line, end, then, Rising, no_re
 -- the answers, by what the walks answer
 pub differ_by :
     (t : Trace) (target : ℤ) (place halvings : ℕ) → t.size ≤ trace_limit → (first_met t).is_found ≡ true → (first_met t).offset ≡ 2048
-    → plain_from t target 2048 ≡ some place → (b : Bracket) → bracket t target ≡ b → b.halvings ≡ halvings → walked (meet t) t.size target t.size b.lo ≡ none
+    → plain_from t target 2048 ≡ Some place → (b : Bracket) → bracket t target ≡ b → b.halvings ≡ halvings → walked (meet t) t.size target t.size b.lo ≡ None
     → Differ t target place halvings
 unfolding plain_of seek_of
 differ_by t target place halvings fits is first p b bracket_is h w =
@@ -41,8 +41,8 @@ differ_by t target place halvings fits is first p b bracket_is h w =
 
 module _
     (t : Trace) (steps : Steps t.next t.size) (n-is : t.size ≡ 2094) (target : ℤ)
-    (one : t.next 2048 ≡ some 2063) (two : t.next 2063 ≡ some 2078) (three_is : t.next 2078 ≡ some 2093)
-    (only : (at m : ℕ) → t.next at ≡ some m → Memᴰ at (2048 ∷ 2063 ∷ 2078 ∷ []))
+    (one : t.next 2048 ≡ Some 2063) (two : t.next 2063 ≡ Some 2078) (three_is : t.next 2078 ≡ Some 2093)
+    (only : (at m : ℕ) → t.next at ≡ Some m → Memᴰ at (2048 ∷ 2063 ∷ 2078 ∷ []))
     (early : lt_z (t.millis 2048) target ≡ true) (late : lt_z (t.millis 2063) target ≡ false) where
   abbrev next : ℕ → Option ℕ
   next = t.next
@@ -50,7 +50,7 @@ module _
   line : Line t 2048 (2048 ∷ 2063 ∷ 2078 ∷ []) 2093
   line = then one (then two (then three_is end))
 
-  pub stops : next 2093 ≡ none
+  pub stops : next 2093 ≡ None
   stops = no_record_at t line only 2093 refl
 
   ms : Meets (meet t) t.size
@@ -82,7 +82,7 @@ module _
   short : bracket t target ≡ record { lo = (first_met t).offset; hi = t.size; halvings = 0 }
   short = Halvings.short (meet t) t.size ms target t.size (first_met t).offset t.size (omega (arith, place))
 
-  walks : walked (meet t) t.size target t.size (first_met t).offset ≡ none
+  walks : walked (meet t) t.size target t.size (first_met t).offset ≡ None
   walks =
       ap (λ (lo : ℕ). walked (meet t) t.size target t.size lo) place
       ∙ Walks.passes (meet t) t.size ms target t.size 2048 (omega arith) (omega arith) 2048 2063 (t.millis 2048) first_is early

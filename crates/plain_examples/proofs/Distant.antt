@@ -9,7 +9,7 @@ use mathlib.Core.Bool.{Bool, true, false}
 use mathlib.Core.List.Memᴰ
 use mathlib.Core.List.{List, [], ◌∷◌, ◌++◌, append-nil, Memᴰ}
 use mathlib.Core.Logic.{⊎_elim}
-use mathlib.Core.Option.{Option, some}
+use Rattle.std.specs.Prelude.{Option, Some}
 use mathlib.Core.Path.{◌≡◌, refl, sym, ap, subst, ◌∙◌}
 use native.Mathlib.Omega.{arith}
 use Rattle.layout.specs.Layout.{header_size, trace_limit, kind_of}
@@ -45,7 +45,7 @@ places = 1050624 ∷ 1050639 ∷ []
 
 module _
     (t : Trace) (steps : Steps t.next t.size) (n-is : t.size ≡ 1050654) (target : ℤ)
-    (one : t.next 1050624 ≡ some 1050639) (two : t.next 1050639 ≡ some 1050654) (only : (at m : ℕ) → t.next at ≡ some m → Memᴰ at places)
+    (one : t.next 1050624 ≡ Some 1050639) (two : t.next 1050639 ≡ Some 1050654) (only : (at m : ℕ) → t.next at ≡ Some m → Memᴰ at places)
     (early : lt_z (t.millis 1050624) target ≡ true) (late : lt_z (t.millis 1050639) target ≡ false) where
   abbrev n : ℕ
   n = t.size
@@ -93,12 +93,12 @@ module _
       ∙ ap (λ (m : MetTold). counted (narrowed (meet t) target n (next_lo target 2048 m) (next_hi target (middle 2048 n) n m))) (sym middle_is)
       ∙ simp early (ap counted (Halvings.short (meet t) n ms target n 1050639 n (omega arith)))
 
-  second_found : walked (meet t) n target n 1050639 ≡ some 1050639
+  second_found : walked (meet t) n target n 1050639 ≡ Some 1050639
   second_found =
       Walks.answers (meet t) n ms target n 1050639 (omega arith) (omega arith) 1050639 1050654 (t.millis 1050639)
       (met_here t steps fits 1050639 1050654 (omega arith) (is_boundary t.next n steps second_on) two) late
 
-  driven : Driven t target (Searching 2048 n) (some 1050639) 1
+  driven : Driven t target (Searching 2048 n) (Some 1050639) 1
   driven =
       subst (λ (o : Option ℕ). Driven t target (Searching 2048 n) o 1) second_found
       (subst (λ (b : Bracket). Driven t target (Searching 2048 n) (walked (meet t) n target n b.lo) b.halvings) halved
@@ -160,7 +160,7 @@ module _ (kinds : List ℕ) (known : kind_of kinds 0xFE ≡ 3) where
       let steps : Steps t.next t.size = record_steps plausible kinds distant in
       let a : _ = blank_there kinds known small_0 (blank (second 1) 1) from_0 in
       let b : _ = blank_there kinds known small_1 [] from_1 in
-      let only : (at m : ℕ) → t.next at ≡ some m → Memᴰ at places = only_at kinds distant places bytes marks_are in
+      let only : (at m : ℕ) → t.next at ≡ Some m → Memᴰ at places = only_at kinds distant places bytes marks_are in
       let early : lt_z (t.millis 1050624) (pos (millisecond 1)) ≡ true = ap (λ z. lt_z z (pos (millisecond 1))) a.1 in
       let late : lt_z (t.millis 1050639) (pos (millisecond 1)) ≡ false = ap (λ z. lt_z z (pos (millisecond 1))) b.1 in
       let records : Line t 1050624 places 1050654 = then a.0 (then b.0 end) in (

@@ -4,7 +4,7 @@ use Prim.Native.Nat.{ℕ, suc, ◌≤◌}
 use lib.IntN.{ℤ}
 use lib.Signed.{lt_z}
 use mathlib.Core.Bool.{true, false}
-use mathlib.Core.Option.{some}
+use Rattle.std.specs.Prelude.{Some}
 use mathlib.Core.Path.{◌≡◌, refl, sym, ap, subst, ◌∙◌}
 use native.Mathlib.Omega.{arith}
 use Rattle.layout.specs.Layout.{trace_limit}
@@ -23,7 +23,7 @@ use Rattle.plain_examples.proofs.Broken.{differ_by}
 
 module _
     (t : Trace) (steps : Steps t.next t.size) (n-is : t.size ≡ 82078) (target : ℤ) (end k : ℕ)
-    (one : t.next 2048 ≡ some end) (two : t.next 42063 ≡ some 82078) (rest : Unbroken t.next t.size end k)
+    (one : t.next 2048 ≡ Some end) (two : t.next 42063 ≡ Some 82078) (rest : Unbroken t.next t.size end k)
     (late : lt_z (t.millis 2048) target ≡ false) (early : lt_z (t.millis 42063) target ≡ true) where
   ms : Meets (meet t) t.size
   ms = meets t steps

@@ -5,7 +5,7 @@ use lib.ListN.{length}
 use lib.Signed.{lt_z, le_z_yes}
 use mathlib.Core.Bool.{Bool, true, false}
 use mathlib.Core.List.{List, [], ◌∷◌, ◌++◌, append-nil, Memᴰ}
-use mathlib.Core.Option.{some}
+use Rattle.std.specs.Prelude.{Some}
 use mathlib.Core.Path.{◌≡◌, refl, sym, ap, subst, ◌∙◌}
 use native.Mathlib.Omega.{arith}
 use Rattle.layout.specs.Layout.{trace_limit, kind_of}
@@ -35,8 +35,8 @@ places = 2048 ∷ 1050638 ∷ 2099228 ∷ []
 
 module _
     (t : Trace) (steps : Steps t.next t.size) (n-is : t.size ≡ 3147818) (target : ℤ)
-    (one : t.next 2048 ≡ some 1050638) (two : t.next 1050638 ≡ some 2099228) (three : t.next 2099228 ≡ some 3147818)
-    (only : (at m : ℕ) → t.next at ≡ some m → Memᴰ at places) where
+    (one : t.next 2048 ≡ Some 1050638) (two : t.next 1050638 ≡ Some 2099228) (three : t.next 2099228 ≡ Some 3147818)
+    (only : (at m : ℕ) → t.next at ≡ Some m → Memᴰ at places) where
   abbrev n : ℕ
   n = t.size
 
@@ -147,13 +147,13 @@ module _ (kinds : List ℕ) (known : kind_of kinds 0xFE ≡ 3) where
       (bytes_append (blank (second 0) 1048576) rest_1 (bytes_blank kinds known largest_0)
       (bytes_append (blank (second 1) 1048576) (blank (second 2) 1048576) (bytes_blank kinds known largest_1) (bytes_blank kinds known largest_2)))
 
-  only : (at m : ℕ) → t.next at ≡ some m → Memᴰ at places
+  only : (at m : ℕ) → t.next at ≡ Some m → Memᴰ at places
   only = only_at kinds large places bytes marks_are
 
   -- all premises, each record larger than the window, and bounds that cross
   pub large_included :
       Premises t
-      × (((at m : ℕ) → t.next at ≡ some m → at + default_window < m)
+      × (((at m : ℕ) → t.next at ≡ Some m → at + default_window < m)
       × ((bracket t (pos (millisecond 2))).hi < (bracket t (pos (millisecond 2))).lo))
   large_included =
       let steps : Steps t.next t.size = record_steps plausible kinds large in

@@ -8,7 +8,7 @@ use mathlib.Core.Bool.{Bool, true, false, ◌||◌, true≢false, or-true}
 use mathlib.Core.List.Memᴰ
 use mathlib.Core.List.{List, [], ◌∷◌, Memᴰ}
 use mathlib.Core.Logic.{⊎_elim}
-use mathlib.Core.Option.{Option, none, some}
+use Rattle.std.specs.Prelude.{Option, None, Some}
 use mathlib.Core.Path.{◌≡◌, refl, sym, subst, ◌∙◌}
 use native.Mathlib.Omega.{arith}
 use Rattle.resync.proofs.Chain.{boundary_record}
@@ -47,14 +47,14 @@ module _ (t : Trace) where
   -- records at these places lead from the first of them to an end
   pub data Line : ℕ → List ℕ → ℕ → Type 0 where
     end : {at : ℕ} → Line at [] at
-    then : {at m to : ℕ} {l : List ℕ} → t.next at ≡ some m → Line m l to → Line at (at ∷ l) to
+    then : {at m to : ℕ} {l : List ℕ} → t.next at ≡ Some m → Line m l to → Line at (at ∷ l) to
 
   pub leads : {at to : ℕ} {l : List ℕ} → Line at l to → Unbroken t.next to at (length l)
   leads end = ends
   leads (then e r) = more e (leads r)
 
   -- one of them is one of the records from the first on
-  pub begins_in : {at to place m : ℕ} {l : List ℕ} → Line at l to → Memᴰ place l → t.next place ≡ some m → Begins t at place
+  pub begins_in : {at to place m : ℕ} {l : List ℕ} → Line at l to → Memᴰ place l → t.next place ≡ Some m → Begins t at place
   begins_in end a f = absurd (Memᴰ.not-nil a)
   begins_in {place = place} {m = m} (then {at} e r) a f =
       ⊎_elim
@@ -70,7 +70,7 @@ module _ (t : Trace) where
     step : {a b : ℕ} {l : List ℕ} → t.millis a ≤ℤ t.millis b → Rising (b ∷ l) → Rising (a ∷ b ∷ l)
 
   rises :
-      {at to place after m : ℕ} {l : List ℕ} → Line at l to → t.next to ≡ none → Rising l → Memᴰ place l → t.next place ≡ some after → t.next after ≡ some m
+      {at to place after m : ℕ} {l : List ℕ} → Line at l to → t.next to ≡ None → Rising l → Memᴰ place l → t.next place ≡ Some after → t.next after ≡ Some m
       → t.millis place ≤ℤ t.millis after
   rises end stops u a e f = absurd (Memᴰ.not-nil a)
   rises {place = place} {after = after} (then {at} {m = p} g end) stops u a e f =
@@ -81,16 +81,16 @@ module _ (t : Trace) where
       (λ b. rises (then h r) stops u b e f) (Memᴰ.cases_cons a)
 
   -- a trace that has no others meets two of the premises
-  module _ {first to : ℕ} {l : List ℕ} (line : Line first l to) (only : (at m : ℕ) → t.next at ≡ some m → Memᴰ at l) where
-    none_by : (at : ℕ) → among at l ≡ false → (o : Option ℕ) → t.next at ≡ o → t.next at ≡ none
-    none_by at e none f = f
-    none_by at e (some m) f = absurd (not_among at l e (only at m f))
+  module _ {first to : ℕ} {l : List ℕ} (line : Line first l to) (only : (at m : ℕ) → t.next at ≡ Some m → Memᴰ at l) where
+    none_by : (at : ℕ) → among at l ≡ false → (o : Option ℕ) → t.next at ≡ o → t.next at ≡ None
+    none_by at e None f = f
+    none_by at e (Some m) f = absurd (not_among at l e (only at m f))
 
-    pub no_record_at : (at : ℕ) → among at l ≡ false → t.next at ≡ none
+    pub no_record_at : (at : ℕ) → among at l ≡ false → t.next at ≡ None
     no_record_at at e = none_by at e (t.next at) refl
 
     pub no_others : NoOtherBoundary t first
     no_others at from is = let e : _ = boundary_record t.next t.size at is in begins_in line (only at e.0 e.1) e.1
 
-    pub in_order : t.next to ≡ none → Rising l → NeverDecrease t first
+    pub in_order : t.next to ≡ None → Rising l → NeverDecrease t first
     in_order stops rising at after b e a = rises line stops rising (only at after e) e a.valid

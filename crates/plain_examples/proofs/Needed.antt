@@ -7,7 +7,7 @@ use mathlib.Core.Bool.{true, false}
 use mathlib.Core.List.Memᴰ
 use mathlib.Core.List.{List, [], ◌∷◌, ◌++◌, append_assoc, append-nil, Memᴰ}
 use mathlib.Core.Logic.{⊎_elim}
-use mathlib.Core.Option.{some}
+use Rattle.std.specs.Prelude.{Some}
 use mathlib.Core.Path.{◌≡◌, refl, sym, ap, subst, ◌∙◌}
 use Rattle.layout.specs.Layout.{kind_of}
 use Rattle.record.proofs.Steps.{Steps}
@@ -26,7 +26,7 @@ use Rattle.plain_examples.proofs.Broken.{broken_differs}
 use Rattle.plain_examples.proofs.Halved.{has_first, place, all_unbroken, halved_differs}
 
 -- a record begins only at the places that the marks tell
-pub only_at : (kinds s l : List ℕ) → Bytes s → marks s 0 ≡ sevens l → (at m : ℕ) → next_at plausible kinds s at ≡ some m → Memᴰ at l
+pub only_at : (kinds s l : List ℕ) → Bytes s → marks s 0 ≡ sevens l → (at m : ℕ) → next_at plausible kinds s at ≡ Some m → Memᴰ at l
 only_at kinds s l bytes is at m e = seven_less at l (subst (Memᴰ (at + 7)) is (begins_marked kinds s bytes at m e))
 
 module _ (kinds : List ℕ) (known : kind_of kinds 0xFE ≡ 3) where
@@ -170,12 +170,12 @@ module _ (kinds : List ℕ) (known : kind_of kinds 0xFE ≡ 3) where
       (bytes_append (head (second 1) 80016) (zeros 40002 ++ blank (second 0) 40001) (bytes_small (head (second 1) 80016) refl)
       (bytes_append (zeros 40002) (blank (second 0) 40001) (bytes_zeros 40002) (bytes_blank kinds known half_0)))
 
-  nested_only : (at m : ℕ) → next_at plausible kinds nested at ≡ some m → Memᴰ at (2048 ∷ 42063 ∷ [])
+  nested_only : (at m : ℕ) → next_at plausible kinds nested at ≡ Some m → Memᴰ at (2048 ∷ 42063 ∷ [])
   nested_only = only_at kinds nested (2048 ∷ 42063 ∷ []) nested_bytes nested_marks
 
   -- both end at the end, where no record begins, so that none follows another
   alone :
-      next_at plausible kinds nested 2048 ≡ some 82078 → next_at plausible kinds nested 42063 ≡ some 82078
+      next_at plausible kinds nested 2048 ≡ Some 82078 → next_at plausible kinds nested 42063 ≡ Some 82078
       → (first : ℕ) → NeverDecrease (in_bytes nested) first
   alone one two first at after b e a =
       let ends_there : after ≡ 82078 =

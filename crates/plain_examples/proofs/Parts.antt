@@ -6,7 +6,7 @@ use lib.ListN.{length, get_or, length-append}
 use lib.Seq.{get_or-append-add}
 use mathlib.Core.Bool.{Bool, true, false, cond, ◌&&◌, false≢true, true≢false}
 use mathlib.Core.List.{List, [], ◌∷◌, ◌++◌, append_assoc, Memᴰ}
-use mathlib.Core.Option.{some}
+use Rattle.std.specs.Prelude.{Some}
 use mathlib.Core.Path.{◌≡◌, refl, sym, ap, ◌∙◌}
 use native.Mathlib.Omega.{arith}
 use Rattle.choice.proofs.Choice.{left_true, right_true}
@@ -85,12 +85,12 @@ module _
     kind_there : 3 ≡ kind_at kinds s at
     kind_there = sym (ap (λ (n : ℕ). kind_of kinds (get_or s (at + 13 + n) 0)) size_there ∙ ap (kind_of kinds) end_there ∙ known)
 
-    pub stands_there : next_at limits kinds s at ≡ some (at + 14 + size)
+    pub stands_there : next_at limits kinds s at ≡ Some (at + 14 + size)
     stands_there =
         valid_some limits kinds s at
         (six limits kinds s at (omega (arith, long_enough)) (cleared ticks) (ap cleared (sym ticks_there)) in_time size (sym size_there) in_range
         long_enough 3 kind_there (λ e. omega arith) refl)
-        ∙ ap (λ (n : ℕ). some (at + 14 + n)) size_there
+        ∙ ap (λ (n : ℕ). Some (at + 14 + n)) size_there
 
 -- The places whose byte can be the highest of a valid record's ticks: a record begins only seven bytes before one of them.
 abbrev pub marks : List ℕ → ℕ → List ℕ
@@ -141,10 +141,10 @@ bytes_append (x ∷ a) b p q (suc k) = bytes_append a b (λ i. p (suc i)) q k
 
 -- a record begins seven bytes before a mark
 module _ (kinds s : List ℕ) (bytes : Bytes s) where
-  begins_by : (at m : ℕ) → next_at plausible kinds s at ≡ some m → (b : Bool) → may_ticks (get_or s (at + 7) 0) ≡ b → Memᴰ (at + 7) (marks s 0)
+  begins_by : (at m : ℕ) → next_at plausible kinds s at ≡ Some m → (b : Bool) → may_ticks (get_or s (at + 7) 0) ≡ b → Memᴰ (at + 7) (marks s 0)
   begins_by at m e true is = marked s 0 (at + 7) (at + 7) (omega arith) is
   begins_by at m e false is =
       absurd (true≢false (sym (some_valid plausible kinds s at m e).0 ∙ turned_away s at bytes kinds (ap (λ (b : Bool). b && eqb (get_or s (at + 12) 0) 0) is)))
 
-  pub begins_marked : (at m : ℕ) → next_at plausible kinds s at ≡ some m → Memᴰ (at + 7) (marks s 0)
+  pub begins_marked : (at m : ℕ) → next_at plausible kinds s at ≡ Some m → Memᴰ (at + 7) (marks s 0)
   begins_marked at m e = begins_by at m e (may_ticks (get_or s (at + 7) 0)) refl

@@ -1,20 +1,28 @@
--- A turn of the loops that put zeros, and the bytes of a number: the first byte of what is left, and the rest. Assumes nothing.
-use Prim.Native.Nat.{ℕ, suc, ◌-◌, ◌/◌, ◌%◌, ◌<◌}
+-- One zero more, and the bytes of a number as std writes them. Assumes nothing.
+use Prim.Native.Nat.{ℕ, zero, suc, ◌+◌, ◌*◌, ◌/◌, ◌%◌, ◌^◌}
 use mathlib.Core.List.{[], ◌∷◌, ◌++◌}
-use mathlib.Core.Path.{◌≡◌, ap}
+use mathlib.Core.Path.{◌≡◌, refl, sym, ap, ◌∙◌}
 use native.Mathlib.Omega.{arith}
+use Rattle.std.proofs.lemmas.List.{replicate-append-replicate}
+use Rattle.std.proofs.Math.Nat.{div-div-eq-div-mul, pow-succ'}
+use Rattle.std.specs.Int.{byte_at, bytes_low_first}
 use Rattle.plain_examples.specs.Traces.{zeros, low}
 
-pub one_zero : (left : ℕ) → 0 < left → zeros left ≡ (0 ∷ []) ++ zeros (left - 1)
+pub one_more_zero : (n : ℕ) → zeros n ++ (0 ∷ []) ≡ zeros (n + 1)
 unfolding zeros
-one_zero left h = let is : left ≡ suc (left - 1) = omega arith in ap zeros is
+one_more_zero n = replicate-append-replicate n 1 0
 
-pub no_zeros : (left : ℕ) → left ≡ 0 → zeros left ≡ []
-unfolding zeros
-no_zeros left e = ap zeros e
+byte_is : (i n : ℕ) → byte_at i n ≡ n / 256 ^ i % 256
+byte_is zero n = omega arith
+byte_is (suc i) n = refl
 
-pub one_low : (left n : ℕ) → 0 < left → low left n ≡ (n % 256 ∷ []) ++ low (left - 1) (n / 256)
-one_low left n h = let is : left ≡ suc (left - 1) = omega arith in ap (λ (k : ℕ). low k n) is
+-- k bytes of a number, from byte i upward
+low_first : (i k n : ℕ) → bytes_low_first i k n ≡ low k (n / 256 ^ i)
+low_first i zero n = refl
+low_first i (suc k) n =
+    let power : 256 ^ suc i ≡ 256 ^ i * 256 = omega (arith, pow-succ' 256 i) in
+    let below : n / 256 ^ suc i ≡ n / 256 ^ i / 256 = ap (λ (p : ℕ). n / p) power ∙ sym (div-div-eq-div-mul n (256 ^ i) 256) in
+    rw (byte_is i n, low_first (suc i) k n, below) refl
 
-pub no_low : (left n : ℕ) → left ≡ 0 → low left n ≡ []
-no_low left n e = ap (λ (k : ℕ). low k n) e
+pub low_bytes : (k n : ℕ) → bytes_low_first 0 k n ≡ low k n
+low_bytes k n = low_first 0 k n ∙ ap (low k) (omega arith)

@@ -1,6 +1,4 @@
-pub mod Mpdu
-pub mod Parts
-pub mod Shapes
+pub mod Framing
 pub mod Mpdus
 pub mod Figures
 pub mod Only

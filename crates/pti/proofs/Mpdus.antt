@@ -8,16 +8,15 @@ use mathlib.Core.List.{List}
 use mathlib.Core.Path.{◌≡◌, subst}
 use native.Mathlib.Omega.{arith}
 use borrow.Author.Tests.{leb-true, ltb-true}
+use Rattle.std.specs.Prelude.{Option, None, Some}
 use Rattle.pti.specs.Frame.{tail_size, is_beam, mpdu_length, accepted, fields_of, parts_of, sided_of, tagged_of, frame_of}
 use Rattle.pti.specs.declared.PtiFrame.{PtiFrame}
-use Rattle.pti.specs.declared.Parsed.{Parsed}
-use Rattle.pti.specs.declared.Parsed.TheVariants.{Frame, Nothing}
 use Rattle.choice.proofs.Choice.{right_true, by_choice}
 
 -- what a body of so many bytes may hold
-pub Holds : ℕ → Parsed → Type 0
-Holds n (Frame f) = f.mpdu + f.mpdu_len ≤ n
-Holds n Nothing = Unit
+pub Holds : ℕ → Option PtiFrame → Type 0
+Holds n (Some f) = f.mpdu + f.mpdu_len ≤ n
+Holds n None = Unit
 
 within : (n len : ℕ) (b : Bool) → cond (b && leb len n) len n ≤ n
 within n len b =
@@ -35,7 +34,7 @@ mpdu_length_within part =
 parts_hold : (n place : ℕ) (sent : Bool) (part tail : List ℕ) → place + length part ≤ n → Holds n (parts_of place sent part tail)
 unfolding Holds parts_of
 parts_hold n place sent part tail h =
-    by_choice (Holds n) (accepted sent part tail) {a = Frame (fields_of place sent part tail)} {b = Nothing}
+    by_choice (Holds n) (accepted sent part tail) {a = Some (fields_of place sent part tail)} {b = None}
     (λ (e : accepted sent part tail ≡ true). omega (arith, mpdu_length_within part))
     (λ (e : accepted sent part tail ≡ false). tt)
 
@@ -46,14 +45,14 @@ module _ (body : List ℕ) where
       let size = length body - tail_size sent - header in
       let part = take size (drop header body) in
       let tail = drop (length body - tail_size sent) body in
-      by_choice (Holds (length body)) (ltb (header + tail_size sent) (length body)) {a = parts_of header sent part tail} {b = Nothing}
+      by_choice (Holds (length body)) (ltb (header + tail_size sent) (length body)) {a = parts_of header sent part tail} {b = None}
       (λ (e : ltb (header + tail_size sent) (length body) ≡ true).
       let l : header + tail_size sent < length body = ltb-true (header + tail_size sent) (length body) e in
       let r : length part ≡ size = length-take-le size (drop header body) (simp length-drop (omega arith)) in
       parts_hold (length body) header sent part tail (omega arith))
       (λ (e : ltb (header + tail_size sent) (length body) ≡ false). tt)
 
-  choice : (a b : Bool) (x y : Parsed) → Holds (length body) x → Holds (length body) y → Holds (length body) (cond a x (cond b y Nothing))
+  choice : (a b : Bool) (x y : Option PtiFrame) → Holds (length body) x → Holds (length body) y → Holds (length body) (cond a x (cond b y None))
   unfolding Holds
   choice true b x y h k = h
   choice false true x y h k = k
@@ -71,6 +70,6 @@ module _ (body : List ℕ) where
       choice (eqb (get_or body 0 0) 2) (eqb (get_or body 0 0) 3) (tagged_of 12 body) (tagged_of 19 body) (tagged_holds 12) (tagged_holds 19)
 
   -- a frame's MPDU lies inside the body
-  pub mpdu_inside : (f : PtiFrame) → frame_of body ≡ Frame f → f.mpdu + f.mpdu_len ≤ length body
+  pub mpdu_inside : (f : PtiFrame) → frame_of body ≡ Some f → f.mpdu + f.mpdu_len ≤ length body
   unfolding Holds
   mpdu_inside f e = subst (Holds (length body)) e frame_holds

@@ -1,12 +1,10 @@
 -- The Z-Wave frame in the body of a bracket record: header part, radio part, tail.
-use Rattle.std.specs.Prelude.{ℕ, ◌+◌, ◌-◌, ◌%◌, eqb, ltb, leb, ℤ, pos, length, get_or, take, drop, Bool, true, false, ◌&&◌, ◌||◌, cond, List}
+use Rattle.std.specs.Prelude.{ℕ, ◌+◌, ◌-◌, ◌%◌, eqb, ltb, leb, ℤ, pos, length, get_or, take, drop, Bool, true, false, ◌&&◌, ◌||◌, cond, List, Option, None, Some}
 use Rattle.std.specs.Int.{w8}
 use Rattle.std.proofs.Common.{to_z}
 use Rattle.speed.specs.Speed.{speed_for}
 use Rattle.beam.specs.Beam.{beam_count}
 use Rattle.pti.specs.declared.PtiFrame.{PtiFrame}
-use Rattle.pti.specs.declared.Parsed.{Parsed}
-use Rattle.pti.specs.declared.Parsed.TheVariants.{Frame, Nothing}
 
 -- a frame's direction: 0 received, 1 sent
 abbrev pub direction_of : Bool → ℕ
@@ -72,23 +70,23 @@ fields_of place sent part tail =
 abbrev pub accepted : Bool → List ℕ → List ℕ → Bool
 accepted sent part tail = (eqb (get_or tail 0 0) (end_tag sent) || is_beam part) && eqb (protocol_of sent tail) 6
 
-unfoldable pub parts_of : ℕ → Bool → List ℕ → List ℕ → Parsed
-parts_of place sent part tail = cond (accepted sent part tail) (Frame (fields_of place sent part tail)) Nothing
+unfoldable pub parts_of : ℕ → Bool → List ℕ → List ℕ → Option PtiFrame
+parts_of place sent part tail = cond (accepted sent part tail) (Some (fields_of place sent part tail)) None
 
 -- 01: "The body must be longer than header part plus tail"
-unfoldable pub sided_of : ℕ → Bool → List ℕ → Parsed
+unfoldable pub sided_of : ℕ → Bool → List ℕ → Option PtiFrame
 sided_of header sent body =
     cond (ltb (header + tail_size sent) (length body))
     (parts_of header sent (take (length body - tail_size sent - header) (drop header body)) (drop (length body - tail_size sent) body))
-    Nothing
+    None
 
 -- 01: "The header part's last byte is the start tag: 0xF8 receive, 0xFC transmit"
-unfoldable pub tagged_of : ℕ → List ℕ → Parsed
+unfoldable pub tagged_of : ℕ → List ℕ → Option PtiFrame
 tagged_of header body =
     cond (eqb (get_or body (header - 1) 0) 0xF8) (sided_of header false body)
-    (cond (eqb (get_or body (header - 1) 0) 0xFC) (sided_of header true body) Nothing)
+    (cond (eqb (get_or body (header - 1) 0) 0xFC) (sided_of header true body) None)
 
 -- 01: "A body opens with version 2 (header part 12 bytes) or 3 (19 bytes)"
-unfoldable pub frame_of : List ℕ → Parsed
+unfoldable pub frame_of : List ℕ → Option PtiFrame
 frame_of body =
-    cond (eqb (get_or body 0 0) 2) (tagged_of 12 body) (cond (eqb (get_or body 0 0) 3) (tagged_of 19 body) Nothing)
+    cond (eqb (get_or body 0 0) 2) (tagged_of 12 body) (cond (eqb (get_or body 0 0) 3) (tagged_of 19 body) None)

@@ -1,8 +1,6 @@
 -- What a body holds, told in numbers. That it determines the answer is `only_parsed` of proofs/Only.antt.
-use Rattle.std.specs.Prelude.{ℕ, ℤ, pos, Bool, true, false}
+use Rattle.std.specs.Prelude.{ℕ, ℤ, pos, Bool, true, false, Option, None, Some}
 use Rattle.pti.specs.declared.PtiFrame.{PtiFrame}
-use Rattle.pti.specs.declared.Parsed.{Parsed}
-use Rattle.pti.specs.declared.Parsed.TheVariants.{Frame, Nothing}
 
 -- whether there is a frame, and its fields in their order; what is not said is 0
 pub record ParsedTold : Type 0 where
@@ -33,6 +31,6 @@ told_frame f =
 abbrev pub no_frame : ParsedTold
 no_frame = record { is_frame = false; direction = 0; region = 0; channel = 0; speed = 0; rssi = pos 0; beam_count = 0; mpdu = 0; mpdu_len = 0 }
 
-abbrev pub told_parsed : Parsed → ParsedTold
-told_parsed (Frame f) = told_frame f
-told_parsed Nothing = no_frame
+abbrev pub told_parsed : Option PtiFrame → ParsedTold
+told_parsed (Some f) = told_frame f
+told_parsed None = no_frame

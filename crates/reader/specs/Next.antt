@@ -1,11 +1,12 @@
 -- One step of the sequential reader: the refusals in their order, the end, and what a record gives.
-use Rattle.std.specs.Prelude.{ℕ, ◌+◌, ◌-◌, ◌^◌, min, ltb, ℤ, pos, length, Bool, true, false, cond, List}
+use Rattle.std.specs.Prelude.{ℕ, ◌+◌, ◌-◌, ◌^◌, min, ltb, ℤ, pos, length, Bool, true, false, cond, List, Option, None, Some, Result, Ok, Err}
 use Rattle.std.proofs.Math.IntN.{sub_ℕ}
 use Rattle.layout.specs.Layout.{trace_limit, properties_part, payload_part}
 use Rattle.layout.specs.Fields.{ticks_at, length_at, outgoing_at, session_at, end_place, end_at, kind_at, next_place}
 use Rattle.reader.specs.declared.ZlfReader.{ZlfReader}
 use Rattle.reader.specs.declared.Next.{Next}
-use Rattle.reader.specs.declared.Next.TheVariants.{Record, End, TraceTooLong, InvalidPayloadLength, EofInHead, EofInPayload}
+use Rattle.reader.specs.declared.ReadError.{ReadError}
+use Rattle.reader.specs.declared.ReadError.TheVariants.{TraceTooLong, InvalidPayloadLength, EofInHead, EofInPayload}
 
 -- a number of 32 bits, read as signed: from 2 ^ 31 on it stands for the number that is less by 2 ^ 32
 abbrev pub signed32 : ℕ → ℤ
@@ -100,12 +101,28 @@ next_of kinds s r =
     (cond (ltb (end_place s r.place) (length s)) (record_told kinds s r) (no_record 10 (pos 0) r))
     (no_record 8 (signed32 (length_at s r.place)) r))))
 
--- each answer in the paper's numbers
-abbrev pub told_next : Next → NextTold
-told_next (Record h r) =
-    record_of h.offset h.raw_ticks h.is_outcome h.session_id h.end h.kind h.payload_offset h.payload_len r
-told_next (End r) = no_record 0 (pos 0) r
-told_next (TraceTooLong r) = no_record 1 (pos 0) r
-told_next (InvalidPayloadLength z r) = no_record 8 z r
-told_next (EofInHead r) = no_record 9 (pos 0) r
-told_next (EofInPayload r) = no_record 10 (pos 0) r
+-- a refusal's number, as 01 has it
+abbrev pub read_refusal : ReadError → ℕ
+read_refusal TraceTooLong = 1
+read_refusal (InvalidPayloadLength z) = 8
+read_refusal EofInHead = 9
+read_refusal EofInPayload = 10
+
+-- each answer in the paper's numbers; without a record the reader is the one that was given
+abbrev pub told_next : ZlfReader → Result (Option Next) ReadError → NextTold
+told_next r (Ok (Some n)) =
+    record_of
+    n.«record».offset
+    n.«record».raw_ticks
+    n.«record».is_outcome
+    n.«record».session_id
+    n.«record».end
+    n.«record».kind
+    n.«record».payload_offset
+    n.«record».payload_len
+    n.reader
+told_next r (Ok None) = no_record 0 (pos 0) r
+told_next r (Err TraceTooLong) = no_record 1 (pos 0) r
+told_next r (Err (InvalidPayloadLength z)) = no_record 8 z r
+told_next r (Err EofInHead) = no_record 9 (pos 0) r
+told_next r (Err EofInPayload) = no_record 10 (pos 0) r

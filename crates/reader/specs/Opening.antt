@@ -1,9 +1,10 @@
 -- Opening a trace in sequence: the refusals in their order, and what an opened trace gives.
-use Rattle.std.specs.Prelude.{ℕ, ltb, eqb, length, take, Bool, cond, List}
+use Rattle.std.specs.Prelude.{ℕ, ltb, eqb, length, take, Bool, cond, List, Result, Ok, Err}
 use Rattle.layout.specs.Layout.{le_at, header_size, trace_limit}
 use Rattle.checksum.specs.Sum.{sum_of}
-use Rattle.reader.specs.declared.Opening.{Opening}
-use Rattle.reader.specs.declared.Opening.TheVariants.{Opened, TraceTooLong, TraceTooShort, InvalidHeaderChecksum, InvalidZlfVersion}
+use Rattle.reader.specs.declared.Opened.{Opened}
+use Rattle.reader.specs.declared.OpenError.{OpenError}
+use Rattle.reader.specs.declared.OpenError.TheVariants.{TraceTooLong, TraceTooShort, InvalidHeaderChecksum, InvalidZlfVersion}
 
 -- 01: "over bytes 0 to 2,045, stored low byte first at 2,046"
 abbrev pub sum_part : ℕ
@@ -36,10 +37,17 @@ opened s expected =
     (cond (eqb (version_of s) expected) (opening_told 0 (version_of s) header_size 0) (opening_told 4 (version_of s) 0 0))
     (opening_told 3 0 0 0)))
 
+-- a refusal's number, as 01 has it
+abbrev pub open_refusal : OpenError → ℕ
+open_refusal TraceTooLong = 1
+open_refusal TraceTooShort = 2
+open_refusal InvalidHeaderChecksum = 3
+open_refusal (InvalidZlfVersion v) = 4
+
 -- each answer in the paper's numbers
-abbrev pub told_opening : Opening → OpeningTold
-told_opening (Opened v r) = opening_told 0 v r.place r.count
-told_opening TraceTooLong = opening_told 1 0 0 0
-told_opening TraceTooShort = opening_told 2 0 0 0
-told_opening InvalidHeaderChecksum = opening_told 3 0 0 0
-told_opening (InvalidZlfVersion v) = opening_told 4 v 0 0
+abbrev pub told_opening : Result Opened OpenError → OpeningTold
+told_opening (Ok o) = opening_told 0 o.version o.reader.place o.reader.count
+told_opening (Err TraceTooLong) = opening_told 1 0 0 0
+told_opening (Err TraceTooShort) = opening_told 2 0 0 0
+told_opening (Err InvalidHeaderChecksum) = opening_told 3 0 0 0
+told_opening (Err (InvalidZlfVersion v)) = opening_told 4 v 0 0

@@ -1,22 +1,22 @@
 // Reading a trace in sequence: the rest of zlf/reader.rs. Opening, and one record after another.
 #![tactic(auto)]
 
-ghost use Rattle.std.specs.Prelude.{◌≡◌, ◌≤◌, ◌<◌, ◌^◌, length};
-ghost use Rattle.layout.specs.Layout.{header_size, trace_limit};
+ghost use Rattle.std.specs.Prelude.{◌≡◌, ◌≤◌, ◌<◌, length, Ok, Some};
+ghost use Rattle.layout.specs.Layout.{header_size};
 ghost use Rattle.layout.specs.Fields.{length_at, end_place};
-ghost use Rattle.reader.specs.Opening.{opened, told_opening, sum_right};
-ghost use Rattle.reader.specs.Next.{signed32, counted, record_told, next_of, told_next};
+ghost use Rattle.reader.specs.Opening.{opened, told_opening, sum_right, open_refusal};
+ghost use Rattle.reader.specs.Next.{record_told, next_of, told_next, read_refusal};
 
-use layout::{LENGTH, PROPERTIES, RECORD_HEADER, TRACE_LIMIT, ZLF_HEADER_SIZE};
+use layout::{
+    LENGTH, PROPERTIES, RECORD_HEADER, Readable, Refusal, TRACE_LIMIT, Trace, TraceTooLong,
+    ZLF_HEADER_SIZE,
+};
 
 // Offset of the header's sum within the header.
 pub const HEADER_CRC_OFFSET: usize = 2046;
 
-// A length from here on is a negative one.
-const NEGATIVE: u32 = 0x8000_0000;
-
-// The reader: the place of the next record and the number of records read. It goes in by value and comes back in the answer.
-#[derive(Clone, Copy)]
+// The reader: the place of the next record and the number of records read. It goes in by value, and comes back moved on with a record.
+#[derive(Clone, Copy, Debug, PartialEq, Eq)]
 pub struct ZlfReader {
     pub place: usize,
     pub count: u64,
@@ -24,7 +24,7 @@ pub struct ZlfReader {
 
 // One record as stored, with where its payload lies. The payload is not frame-aligned: it may hold part of a frame, one, or
 // several.
-#[derive(Clone, Copy)]
+#[derive(Clone, Copy, Debug, PartialEq, Eq)]
 pub struct ZlfRecord {
     pub offset: usize,
     pub raw_ticks: u64,
@@ -36,39 +36,72 @@ pub struct ZlfRecord {
     pub payload_len: usize,
 }
 
-// What opening a trace answers.
-#[derive(Clone, Copy)]
-pub enum Opening {
-    Opened { version: u32, reader: ZlfReader },
+// A record, and the reader moved on past it.
+#[derive(Clone, Copy, Debug, PartialEq, Eq)]
+pub struct Next {
+    pub record: ZlfRecord,
+    pub reader: ZlfReader,
+}
+
+// An opened trace: the version found, and the reader at its first record.
+#[derive(Clone, Copy, Debug, PartialEq, Eq)]
+pub struct Opened {
+    pub version: u32,
+    pub reader: ZlfReader,
+}
+
+// Why a trace is not opened.
+#[derive(Clone, Copy, Debug, PartialEq, Eq)]
+pub enum OpenError {
     TraceTooLong,
     TraceTooShort,
     InvalidHeaderChecksum,
     InvalidZlfVersion { version: u32 },
 }
 
-// What reading the next record answers.
-#[derive(Clone, Copy)]
-pub enum Next {
-    Record {
-        header: ZlfRecord,
-        reader: ZlfReader,
-    },
-    End {
-        reader: ZlfReader,
-    },
-    TraceTooLong {
-        reader: ZlfReader,
-    },
-    InvalidPayloadLength {
-        length: i32,
-        reader: ZlfReader,
-    },
-    EofInHead {
-        reader: ZlfReader,
-    },
-    EofInPayload {
-        reader: ZlfReader,
-    },
+impl Refusal for OpenError {
+    ghost number = { open_refusal };
+
+    fn number(self) -> u32 {
+        match self {
+            OpenError::TraceTooLong => 1,
+            OpenError::TraceTooShort => 2,
+            OpenError::InvalidHeaderChecksum => 3,
+            OpenError::InvalidZlfVersion { .. } => 4,
+        }
+    }
+}
+
+// Why there is no next record, where it is not the trace's end.
+#[derive(Clone, Copy, Debug, PartialEq, Eq)]
+pub enum ReadError {
+    TraceTooLong,
+    InvalidPayloadLength { length: i32 },
+    EofInHead,
+    EofInPayload,
+}
+
+impl From<TraceTooLong> for ReadError {
+    ghost use Rattle.reader.specs.declared.ReadError.{ReadError};
+
+    ghost from_gives = { λ _ e. e ≡ ReadError.TraceTooLong };
+
+    fn from(_refusal: TraceTooLong) -> Self {
+        ReadError::TraceTooLong
+    }
+}
+
+impl Refusal for ReadError {
+    ghost number = { read_refusal };
+
+    fn number(self) -> u32 {
+        match self {
+            ReadError::TraceTooLong => 1,
+            ReadError::InvalidPayloadLength { .. } => 8,
+            ReadError::EofInHead => 9,
+            ReadError::EofInPayload => 10,
+        }
+    }
 }
 
 // Whether the header's sum is the stored one.
@@ -79,75 +112,32 @@ fn sum_right(s: &[u8]) -> bool
     checksum::header_sum(&s[..HEADER_CRC_OFFSET]) == layout::u16_at(s, HEADER_CRC_OFFSET)
 }
 
-// A negative length, from the bits that a signed number of 32 bits is stored as.
-fn negative_length(bits: u32) -> i32
-    requires { 2 ^ 31 ≤ bits }
-    ensures { result ≡ signed32 bits }
-{
-    let below = 0xFFFF_FFFF - bits;
-    -1 - (below as i32)
-}
-
-// One more record; the count stays at the largest number.
-fn raised(count: u64) -> u64
-    ensures { result ≡ counted count }
-{
-    if count < u64::MAX { count + 1 } else { count }
-}
-
-// The record at a place where all of it is there.
-fn record_at(kinds: &[u8; 256], s: &[u8], reader: ZlfReader, size: usize) -> Next
-    requires { (length s.now ≤ trace_limit) × (size ≡ length_at s.now reader.place) × (end_place s.now reader.place < length s.now) }
-    ensures { told_next result ≡ record_told kinds.now s.now reader }
-{
-    let place = reader.place;
-    let payload = place + RECORD_HEADER;
-    let properties = s[place + PROPERTIES];
-    let end = s[payload + size];
-    let count = reader.count;
-    Next::Record {
-        header: ZlfRecord {
-            offset: place,
-            raw_ticks: layout::u64_at(s, place),
-            is_outcome: 128 <= properties,
-            session_id: properties % 128,
-            end,
-            kind: layout::kind_of(kinds, end),
-            payload_offset: payload,
-            payload_len: size,
-        },
-        reader: ZlfReader {
-            place: payload + size + 1,
-            count: raised(count),
-        },
-    }
-}
-
 impl ZlfReader {
     // Check the header's sum and then its version.
-    pub fn new(s: &[u8], version: u32) -> Opening
-        ensures { told_opening result ≡ opened s.now version }
+    #[tactic(auto, unfolding(crate::specs::Opening::opened))]
+    pub fn new(bytes: &[u8], version: u32) -> Result<Opened, OpenError>
+        ensures { told_opening result ≡ opened bytes.now version }
     {
-        if TRACE_LIMIT < s.len() {
-            return Opening::TraceTooLong;
+        if TRACE_LIMIT < bytes.len() {
+            return Err(OpenError::TraceTooLong);
         }
-        if s.len() < ZLF_HEADER_SIZE {
-            return Opening::TraceTooShort;
+        if bytes.len() < ZLF_HEADER_SIZE {
+            return Err(OpenError::TraceTooShort);
         }
-        if !sum_right(s) {
-            return Opening::InvalidHeaderChecksum;
+        if !sum_right(bytes) {
+            return Err(OpenError::InvalidHeaderChecksum);
         }
-        let found = layout::u32_at(s, 0);
+        let found = layout::u32_at(bytes, 0);
         if found != version {
-            return Opening::InvalidZlfVersion { version: found };
+            return Err(OpenError::InvalidZlfVersion { version: found });
         }
-        Opening::Opened {
+        Ok(Opened {
             version: found,
             reader: ZlfReader {
                 place: ZLF_HEADER_SIZE,
                 count: 0,
             },
-        }
+        })
     }
 
     // Number of records read so far.
@@ -157,36 +147,62 @@ impl ZlfReader {
         self.count
     }
 
-    // The next record, the end, or why there is none. It has an answer at any place: the lengths are compared from the
-    // trace's end, so that no sum overflows.
-    pub fn next_record(self, kinds: &[u8; 256], s: &[u8]) -> Next
-        ensures { told_next result ≡ next_of kinds.now s.now self }
+    // The record at the reader's place, where all of it is there; the count stays at the largest number.
+    fn record_at(self, trace: Readable, size: usize) -> Next
+        requires { (size ≡ length_at trace.bytes.now self.place) × (end_place trace.bytes.now self.place < length trace.bytes.now) }
+        ensures { told_next self (Ok (Some result)) ≡ record_told trace.entry.kinds.now trace.entry.bytes.now self }
     {
+        let s = trace.bytes;
         let place = self.place;
-        if TRACE_LIMIT < s.len() {
-            return Next::TraceTooLong { reader: self };
+        let payload = place + RECORD_HEADER;
+        let properties = s[place + PROPERTIES];
+        let end = s[payload + size];
+        Next {
+            record: ZlfRecord {
+                offset: place,
+                raw_ticks: layout::u64_at(s, place),
+                is_outcome: 128 <= properties,
+                session_id: properties % 128,
+                end,
+                kind: layout::kind_of(trace.kinds, end),
+                payload_offset: payload,
+                payload_len: size,
+            },
+            reader: ZlfReader {
+                place: payload + size + 1,
+                count: self.count.saturating_add(1),
+            },
         }
-        if s.len() <= place {
-            return Next::End { reader: self };
+    }
+
+    // The next record, none at the trace's end, or why there is none. It has an answer at any place: the lengths are compared from the trace's
+    // end, so that no sum overflows.
+    #[tactic(auto, using(layout::proofs::Limit::over), unfolding(crate::specs::Next::next_of))]
+    pub fn next_record(self, trace: Trace) -> Result<Option<Next>, ReadError>
+        ensures { told_next self result ≡ next_of trace.entry.kinds.now trace.entry.bytes.now self }
+    {
+        let trace = trace.readable()?;
+        let s = trace.bytes;
+        if s.len() <= self.place {
+            return Ok(None);
         }
-        let left = s.len() - place;
+
+        // Kept: by `checked_sub` or `saturating_sub` the compiler no longer knows what is left, and 1,000 records take 51,000 instructions for 35,000.
+        let left = s.len() - self.place;
         if left < PROPERTIES {
-            return Next::End { reader: self };
+            return Ok(None);
         }
         if left < RECORD_HEADER {
-            return Next::EofInHead { reader: self };
+            return Err(ReadError::EofInHead);
         }
-        let bits = layout::u32_at(s, place + LENGTH);
-        if NEGATIVE <= bits {
-            return Next::InvalidPayloadLength {
-                length: negative_length(bits),
-                reader: self,
-            };
+        let length = layout::u32_at(s, self.place + LENGTH).cast_signed();
+        if length < 0 {
+            return Err(ReadError::InvalidPayloadLength { length });
         }
-        let size = bits as usize;
+        let size = length as usize;
         if left - RECORD_HEADER <= size {
-            return Next::EofInPayload { reader: self };
+            return Err(ReadError::EofInPayload);
         }
-        record_at(kinds, s, self, size)
+        Ok(Some(self.record_at(trace, size)))
     }
 }

@@ -5,19 +5,16 @@ use lib.Dec.{ltb}
 use lib.ListN.{length}
 use mathlib.Core.Bool.{Bool, true, false, cond, true≢false}
 use mathlib.Core.List.{List}
-use mathlib.Core.Option.{none, some}
+use Rattle.std.specs.Prelude.{Option, None, Some, Ok}
 use mathlib.Core.Path.{◌≡◌, refl, sym, ap, ◌∙◌}
 use Rattle.layout.specs.Layout.{trace_limit}
 use Rattle.record.specs.Record.{Limits, valid, next_at, RecordTold, no_record, fields_at, record_at, told_record}
-use Rattle.record.specs.declared.Record.{Record}
 use Rattle.record.specs.declared.RecordHeader.{RecordHeader}
-use Rattle.record.specs.declared.Record.TheVariants.{Valid, Absent, TraceTooLong}
 
 -- an answer that is not the first case tells of no valid record
-pub not_valid : (r : Record) → ((h : RecordHeader) → r ≡ Valid h → ⊥) → (told_record r).is_valid ≡ false
-not_valid (Valid h) w = absurd (w h refl)
-not_valid Absent w = refl
-not_valid TraceTooLong w = refl
+pub not_valid : (r : Option RecordHeader) → ((h : RecordHeader) → r ≡ Some h → ⊥) → (told_record (Ok r)).is_valid ≡ false
+not_valid (Some h) w = absurd (w h refl)
+not_valid None w = refl
 
 module _ (limits : Limits) (kinds s : List ℕ) (at : ℕ) (t : RecordTold) (is : t ≡ record_at limits kinds s at) where
   within : length s ≤ trace_limit → t ≡ cond (valid limits kinds s at) (fields_at kinds s at) (no_record 0)
@@ -32,7 +29,7 @@ module _ (limits : Limits) (kinds s : List ℕ) (at : ℕ) (t : RecordTold) (is 
   pub is_none : length s ≤ trace_limit → t.is_valid ≡ false → valid limits kinds s at ≡ false
   is_none fits e = told_none (valid limits kinds s at) e (within fits)
 
-  pub next_none : length s ≤ trace_limit → t.is_valid ≡ false → next_at limits kinds s at ≡ none
+  pub next_none : length s ≤ trace_limit → t.is_valid ≡ false → next_at limits kinds s at ≡ None
   unfolding next_at
   next_none fits e = rw (is_none fits e)
 
@@ -46,6 +43,6 @@ module _ (limits : Limits) (kinds s : List ℕ) (at : ℕ) (t : RecordTold) (is 
   unfolding record_at
   is_one e = told_one (ltb trace_limit (length s)) (valid limits kinds s at) e is
 
-  pub next_one : t.is_valid ≡ true → next_at limits kinds s at ≡ some t.next
+  pub next_one : t.is_valid ≡ true → next_at limits kinds s at ≡ Some t.next
   unfolding next_at
-  next_one e = rw (is_one e).0 (ap (λ (x : RecordTold). some x.next) (sym (is_one e).1))
+  next_one e = rw (is_one e).0 (ap (λ (x : RecordTold). Some x.next) (sym (is_one e).1))

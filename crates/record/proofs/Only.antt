@@ -4,12 +4,14 @@ use mathlib.Core.Bool.{cond}
 use mathlib.Core.Path.{◌≡◌, refl}
 use Rattle.choice.proofs.Only.{only, number}
 use Rattle.record.specs.Record.{RecordTold, told_record}
-use Rattle.record.specs.declared.Record.{Record}
+use Rattle.layout.specs.declared.TraceTooLong.{TraceTooLong}
+use Rattle.record.specs.declared.RecordHeader.{RecordHeader}
+use Rattle.std.specs.Prelude.{Option, None, Some, Result, Ok, Err}
 
-back_record : RecordTold → Record
+back_record : RecordTold → Result (Option RecordHeader) TraceTooLong
 back_record t =
     cond t.is_valid
-    (Record.Valid
+    (Ok (Some
     (record {
       offset = t.offset;
       raw_ticks = t.ticks;
@@ -20,14 +22,14 @@ back_record t =
       kind = t.kind;
       next_offset = t.next;
       unix_millis = number t.millis;
-    }))
-    (cond (eqb t.refusal 0) Record.Absent Record.TraceTooLong)
+    })))
+    (cond (eqb t.refusal 0) (Ok None) (Err (record {})))
 
-same_record : (r : Record) → back_record (told_record r) ≡ r
+same_record : (r : Result (Option RecordHeader) TraceTooLong) → back_record (told_record r) ≡ r
 unfolding back_record number
-same_record (Record.Valid h) = refl
-same_record Record.Absent = refl
-same_record Record.TraceTooLong = refl
+same_record (Ok (Some h)) = refl
+same_record (Ok None) = refl
+same_record (Err refusal) = refl
 
-pub only_record : (a b : Record) → told_record a ≡ told_record b → a ≡ b
+pub only_record : (a b : Result (Option RecordHeader) TraceTooLong) → told_record a ≡ told_record b → a ≡ b
 only_record = only told_record back_record same_record

@@ -6,7 +6,7 @@ use lib.IntN.{pos}
 use lib.ListN.{length}
 use mathlib.Core.Bool.{Bool, true, false, cond}
 use mathlib.Core.List.{List}
-use mathlib.Core.Option.{none, some}
+use Rattle.std.specs.Prelude.{None, Some}
 use mathlib.Core.Path.{◌≡◌, refl}
 use native.Mathlib.Omega.{arith}
 use Rattle.ticks.specs.Ticks.{new_year, cleared, unix_millis, epoch, per_millisecond}
@@ -28,20 +28,20 @@ module _ (limits : Limits) (kinds s : List ℕ) (at : ℕ) where
       let end : end_place s at < length s = ltb-true (end_place s at) (length s) (holds limits kinds s at 3 v) in
       omega arith
 
-  some_by : (v : Bool) (m : ℕ) → cond v (some (next_place s at)) none ≡ some m → (v ≡ true) × (next_place s at ≡ m)
+  some_by : (v : Bool) (m : ℕ) → cond v (Some (next_place s at)) None ≡ Some m → (v ≡ true) × (next_place s at ≡ m)
   some_by true m e = (refl, cc)
   some_by false m e = absurd (let z : ◌≡◌ {A = ℕ} 0 1 = cc in omega arith)
 
   -- the record test gives a place exactly at a valid record, and it is that of the next
-  pub some_valid : (m : ℕ) → next_at limits kinds s at ≡ some m → (valid limits kinds s at ≡ true) × (next_place s at ≡ m)
+  pub some_valid : (m : ℕ) → next_at limits kinds s at ≡ Some m → (valid limits kinds s at ≡ true) × (next_place s at ≡ m)
   unfolding next_at
   some_valid m e = some_by (valid limits kinds s at) m e
 
-  pub valid_some : valid limits kinds s at ≡ true → next_at limits kinds s at ≡ some (next_place s at)
+  pub valid_some : valid limits kinds s at ≡ true → next_at limits kinds s at ≡ Some (next_place s at)
   unfolding next_at
   valid_some v = rw v
 
-  pub invalid_none : valid limits kinds s at ≡ false → next_at limits kinds s at ≡ none
+  pub invalid_none : valid limits kinds s at ≡ false → next_at limits kinds s at ≡ None
   unfolding next_at
   invalid_none v = rw v
 

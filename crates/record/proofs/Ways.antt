@@ -13,7 +13,9 @@ use Rattle.choice.proofs.Choice.{left_true}
 use Rattle.layout.specs.Layout.{kind_of, trace_limit}
 use Rattle.ticks.specs.Ticks.{cleared, unix_millis, epoch, per_millisecond}
 use Rattle.record.specs.Record.{Limits, plausible, ticks_in, length_in, opens_right, kind_known, conditions, all_hold, valid, no_record, fields_at, record_at, told_record}
-use Rattle.record.specs.declared.Record.TheVariants.{Absent}
+use Rattle.std.specs.Prelude.{Option, None, Result, Ok, Err, IsErr}
+use Rattle.layout.specs.declared.TraceTooLong.{TraceTooLong}
+use Rattle.record.specs.declared.RecordHeader.{RecordHeader}
 use Rattle.layout.specs.Fields.{ticks_at, properties_at, length_at, end_place, kind_at}
 
 -- a list of tests: one that fails, and each of those that hold
@@ -43,6 +45,12 @@ module _ (limits : Limits) (kinds s : List ℕ) (at : ℕ) where
   unfolding valid
   holds k e = each_holds (conditions limits kinds s at) k e
 
+  -- a trace over the limit is refused
+  pub too_long : trace_limit < length s → (r : Result (Option RecordHeader) TraceTooLong) → IsErr r → told_record r ≡ record_at limits kinds s at
+  unfolding record_at
+  too_long over (Ok r) e = absurd (false≢true e)
+  too_long over (Err e) is = simp (lt-ltb trace_limit (length s) over)
+
   pub absent : length s ≤ trace_limit → valid limits kinds s at ≡ false → no_record 0 ≡ record_at limits kinds s at
   unfolding record_at
   absent fits e = simp (le-ltb trace_limit (length s) fits, e)
@@ -71,7 +79,7 @@ module _ (limits : Limits) (kinds s : List ℕ) (at : ℕ) where
   no_kind fits k k-is e = absent fits (fails 4 (ap (λ (n : ℕ). kind_known n) (sym k-is ∙ e)))
 
   -- the same, as the check finds it
-  pub kind_zero : length s ≤ trace_limit → kind_at kinds s at ≡ 0 → told_record Absent ≡ record_at limits kinds s at
+  pub kind_zero : length s ≤ trace_limit → kind_at kinds s at ≡ 0 → told_record (Ok None) ≡ record_at limits kinds s at
   kind_zero fits e = no_kind fits 0 (sym e) refl
 
   pub bad_opening :

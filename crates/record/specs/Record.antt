@@ -1,11 +1,10 @@
 -- The record test: the six conditions of a valid record, and what reading one answers.
-use Rattle.std.specs.Prelude.{ℕ, ◌+◌, ltb, leb, eqb, ℤ, pos, length, get_or, Bool, true, false, not, cond, ◌&&◌, ◌||◌, List, [], ◌∷◌}
-use Rattle.std.proofs.Math.Option.{Option, none, some}
+use Rattle.std.specs.Prelude.{ℕ, ◌+◌, ltb, leb, eqb, ℤ, pos, length, get_or, Bool, true, false, not, cond, ◌&&◌, ◌||◌, List, [], ◌∷◌, Option, None, Some, Result, Ok, Err}
 use Rattle.ticks.specs.Ticks.{cleared, unix_millis}
 use Rattle.layout.specs.Layout.{trace_limit, payload_part}
 use Rattle.layout.specs.Fields.{ticks_at, outgoing_at, session_at, length_at, end_place, end_at, kind_at, next_place}
-use Rattle.record.specs.declared.Record.{Record}
-use Rattle.record.specs.declared.Record.TheVariants.{Valid, Absent, TraceTooLong}
+use Rattle.layout.specs.declared.TraceTooLong.{TraceTooLong}
+use Rattle.record.specs.declared.RecordHeader.{RecordHeader}
 
 -- the ticks that a record may have, both ends accepted
 pub record Limits : Type 0 where
@@ -60,7 +59,7 @@ valid limits kinds s at = all_hold (conditions limits kinds s at)
 
 -- the record test: the place after the valid record at a place, or none
 unfoldable pub next_at : Limits → List ℕ → List ℕ → ℕ → Option ℕ
-next_at limits kinds s at = cond (valid limits kinds s at) (some (next_place s at)) none
+next_at limits kinds s at = cond (valid limits kinds s at) (Some (next_place s at)) None
 
 -- what reading a record answers: the refusal's number or 0, whether the record is valid, and its fields; what is not said is 0
 pub record RecordTold : Type 0 where
@@ -103,8 +102,8 @@ record_at limits kinds s at =
     (cond (valid limits kinds s at) (fields_at kinds s at) (no_record 0))
 
 -- each answer in the paper's numbers
-abbrev pub told_record : Record → RecordTold
-told_record (Valid h) =
+abbrev pub told_record : Result (Option RecordHeader) TraceTooLong → RecordTold
+told_record (Ok (Some h)) =
     record {
       refusal = 0;
       is_valid = true;
@@ -118,5 +117,5 @@ told_record (Valid h) =
       next = h.next_offset;
       millis = pos h.unix_millis;
     }
-told_record Absent = no_record 0
-told_record TraceTooLong = no_record 1
+told_record (Ok None) = no_record 0
+told_record (Err refusal) = no_record 1

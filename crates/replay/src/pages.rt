@@ -1,225 +1,105 @@
 // Cases o, u, f and F: opening as a cursor, the seam check, a page, and pages each from the place that the last one named.
-use crate::out;
-use crate::out::Said;
-use cursor::Table;
-use paging::Page;
+use crate::out::Or;
+use crate::{bodies, out};
+use layout::{Refusal, Trace};
+use paging::{Page, PageError};
+use pti::PtiFrame;
 use rows::Row;
-use seam::{Opening, Seam};
+use seam::{OpenError, Seam};
+use std::fmt;
+use std::fmt::Write;
 
 // Opening as a cursor.
-pub fn opened(version: u32, trace: &[u8]) -> Said {
-    let o = seam::open(trace, version);
-    match o {
-        Opening::Opened { version: found } => out::words(0, 1, found as u64, 0, 0),
-        Opening::OtherVersion { version: found } => out::words(out::REFUSED, 2, 4, found as u64, 0),
-        Opening::TraceTooShort => out::refused(2),
-        Opening::TraceTooLong => out::refused(1),
+pub fn opened(out: &mut impl Write, version: u32, trace: &[u8]) -> fmt::Result {
+    match seam::open(trace, version) {
+        Ok(found) => write!(out, " {found}"),
+        Err(e @ OpenError::OtherVersion { version: found }) => {
+            write!(out, " R {} {found}", e.number())
+        }
+        Err(e) => out::refused(out, e),
     }
 }
 
 // The seam check.
-pub fn seam(case: &[u8], trace: &[u8], kinds: &[u8; 256]) -> Said {
-    let from = layout::u64_at(case, 1);
-    let s = seam::seam_check(kinds, trace, from as usize);
-    match s {
-        Seam::Unbroken { records } => out::words(out::UNBROKEN, 2, from, records as u64, 0),
-        Seam::Broken { place, records } => out::words(
-            out::BROKEN,
-            3,
-            from,
-            place as u64,
-            records as u64,
-        ),
-        Seam::PlaceOutside => out::refused(6),
-        Seam::TraceTooLong => out::refused(1),
+pub fn seam(out: &mut impl Write, trace: Trace, from: usize) -> fmt::Result {
+    match seam::seam_check(trace, from) {
+        Ok(Seam::Unbroken { records }) => write!(out, " U {from} {records}"),
+        Ok(Seam::Broken { place, records }) => write!(out, " B {from} {place} {records}"),
+        Err(e) => out::refused(out, e),
     }
 }
 
-// A line for a row: its record, its position, its time and its gap.
-fn origin(r: Row) -> Said {
-    let millis = out::bits(r.millis);
-    let gap = out::bits(r.gap);
-    Said {
-        word: out::LINE,
-        list: [
-            r.record as u64,
-            r.position as u64,
-            millis,
-            gap,
-            0,
-            0,
-            0,
-            0,
-            0,
-            0,
-            0,
-            0,
-            0,
-        ],
-        count: 4,
-        signed: 2,
-        plain: 4,
-        letter: 0,
-    }
+// A line for a row: its record, its position, its time and its gap, and its frame, whose MPDU stands in the trace.
+fn row(out: &mut impl Write, r: &Row, trace: &[u8]) -> fmt::Result {
+    write!(
+        out,
+        "\n  {} {} {} {}",
+        r.record, r.position, r.millis, r.gap
+    )?;
+    let frame = PtiFrame {
+        direction: r.direction,
+        region: r.region,
+        channel: r.channel,
+        speed: r.speed,
+        rssi: r.rssi,
+        beam_count: r.beam_count,
+        mpdu: r.mpdu,
+        mpdu_len: r.mpdu_len,
+    };
+    bodies::frame(out, frame, trace)
 }
 
-// Its frame, whose MPDU stands in the trace.
-fn frame(r: Row, trace: &[u8]) -> Said {
-    out::frame(
-        r.direction,
-        r.region,
-        r.channel,
-        r.speed,
-        r.rssi,
-        r.beam_count,
-        r.mpdu_len,
-        out::sum_of(trace, r.mpdu, r.mpdu_len),
-    )
-}
-
-// Whether a row is as the table had it before the page.
-fn is_blank(r: Row) -> bool {
-    let place = (r.record == 0) & (r.position == 0) & (r.millis == 0) & (r.gap == 0);
-    let radio = (r.direction == 0) & (r.region == 0) & (r.channel == 0) & (r.speed == 0);
-    let mpdu = (r.rssi == 0) & (r.beam_count == 0) & (r.mpdu == 0) & (r.mpdu_len == 0);
-    place & radio & mpdu
-}
-
-// The line for the row at a place of a table of which n were written. Those past them are as they were, or it says so.
-fn row_at(
-    rt: &impl Print,
-    r: Row,
-    i: usize,
-    n: usize,
-    trace: &[u8],
-    lines: &mut [u8],
-    line: usize,
-) -> usize {
-    if i < n {
-        return out::put_both(rt, lines, line, origin(r), frame(r, trace));
+// The rows of a table of which n were written. Those past them are as the table had them before the page, or it says so.
+fn rows(out: &mut impl Write, table: &[Row; 600], n: usize, trace: &[u8]) -> fmt::Result {
+    for r in table.iter().take(n) {
+        row(out, r, trace)?;
     }
-    if is_blank(r) {
-        return line;
+    for r in table.iter().skip(n) {
+        if *r != Row::default() {
+            out.write_str(" and a row past them")?;
+        }
     }
-    out::put_text(rt, lines, line, b" and a row past them")
-}
-
-// The rows of a table of which n were written.
-fn rows_of(
-    rt: &impl Print,
-    rows: [Row; 600],
-    n: usize,
-    trace: &[u8],
-    lines: &mut [u8],
-    line: usize,
-) -> usize {
-    let mut to = line;
-    let mut i = 0;
-    while i < 600 {
-        let r = rows[i];
-        to = row_at(rt, r, i, n, trace, lines, to);
-        i += 1;
-    }
-    to
+    Ok(())
 }
 
 // The line for a page: its start, its number of rows, and the next place if there is one; or its refusal.
-fn edge(p: Page) -> Said {
-    match p {
-        Page::More { start, size, next } => out::words(
-            out::LINE_PAGE,
-            3,
-            start as u64,
-            size as u64,
-            next as u64,
-        ),
-        Page::Last { start, size } => last(start, size),
-        Page::WindowTooLong => out::refused(5),
-        Page::TableTooShort => out::words(out::LINE_REFUSED, 1, 7, 0, 0),
-        Page::TraceTooLong => out::refused(1),
+fn edge(out: &mut impl Write, page: Result<Page, PageError>) -> fmt::Result {
+    match page {
+        Ok(p) => write!(out, "\n page {} {} {}", p.start, p.size, Or(p.next, '-')),
+        Err(e @ PageError::TableTooShort) => write!(out, "\n R {}", e.number()),
+        Err(e) => out::refused(out, e),
     }
 }
 
-// The line for a page that names no next place.
-fn last(start: usize, size: usize) -> Said {
-    Said {
-        word: out::LINE_PAGE,
-        list: [start as u64, size as u64, 0, 0, 0, 0, 0, 0, 0, 0, 0, 0, 0],
-        count: 2,
-        signed: 0,
-        plain: 0,
-        letter: b'-',
-    }
+// A page, its rows and its line; the next place.
+fn shown(
+    out: &mut impl Write,
+    trace: Trace,
+    offset: usize,
+    count: usize,
+) -> Result<Option<usize>, fmt::Error> {
+    let mut table = [Row::default(); 600];
+    let page = cursor::frames_at(trace, offset, count, &mut table);
+    let size = page.map_or(0, |p| p.size);
+    rows(out, &table, size, trace.bytes)?;
+    edge(out, page)?;
+    Ok(page.map_or(None, |p| p.next))
 }
 
-// How many rows a page has.
-fn size_of(p: Page) -> usize {
-    match p {
-        Page::More {
-            start: _,
-            size,
-            next: _,
-        } => size,
-        Page::Last { start: _, size } => size,
-        Page::WindowTooLong => 0,
-        Page::TableTooShort => 0,
-        Page::TraceTooLong => 0,
-    }
+// One page.
+pub fn page(out: &mut impl Write, trace: Trace, offset: usize, count: usize) -> fmt::Result {
+    shown(out, trace, offset, count)?;
+    Ok(())
 }
 
-// A page: its rows, and its line.
-fn shown(rt: &impl Print, t: Table, trace: &[u8], lines: &mut [u8], line: usize) -> usize {
-    let p = t.page;
-    let list = t.rows;
-    let to = rows_of(rt, list, size_of(p), trace, lines, line);
-    out::put_said(rt, lines, to, edge(p))
-}
-
-// So many pages at most, each from the place that the last one named.
-fn pages(
-    rt: &impl Print,
-    case: &[u8],
-    most: usize,
-    trace: &[u8],
-    kinds: &[u8; 256],
-    lines: &mut [u8],
-    line: usize,
-) -> usize {
-    let count = layout::u64_at(case, 9) as usize;
-    let mut offset = layout::u64_at(case, 1) as usize;
-    let mut to = line;
-    let mut i = 0;
-    while i < most {
-        let t = cursor::frames_table(kinds, trace, offset, count);
-        to = shown(rt, t, trace, lines, to);
-        let p = t.page;
-        let Page::More {
-            start: _,
-            size: _,
-            next,
-        } = p
-        else {
-            return to;
+// Pages up to the last one: there are no more of them than bytes, and one.
+pub fn pages(out: &mut impl Write, trace: Trace, offset: usize, count: usize) -> fmt::Result {
+    let mut from = offset;
+    for _ in 0..=trace.bytes.len() {
+        let Some(next) = shown(out, trace, from, count)? else {
+            return Ok(());
         };
-        offset = next;
-        i += 1;
+        from = next;
     }
-    to
-}
-
-// One page, or pages up to the last one: there are no more of them than bytes, and one.
-pub fn listed(
-    rt: &impl Print,
-    letter: u8,
-    case: &[u8],
-    trace: &[u8],
-    kinds: &[u8; 256],
-    lines: &mut [u8],
-    line: usize,
-) -> usize {
-    if letter == b'f' {
-        return pages(rt, case, 1, trace, kinds, lines, line);
-    }
-    let most = std::num::wrapping_add_usize(trace.len(), 1);
-    pages(rt, case, most, trace, kinds, lines, line)
+    Ok(())
 }

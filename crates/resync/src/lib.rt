@@ -4,15 +4,14 @@
 // follow it.
 #![tactic(auto)]
 
-ghost use Rattle.std.specs.Prelude.{cond, ◌≡◌, ◌+◌, ◌≤◌, min, length};
-ghost use Rattle.layout.specs.Layout.{trace_limit};
+ghost use Rattle.std.specs.Prelude.{cond, ◌≡◌, ◌+◌, ◌≤◌, length};
 ghost use Rattle.record.specs.Record.{plausible, next_at};
 ghost use Rattle.resync.specs.Boundary.{boundary, boundary_at, told_boundary};
 ghost use Rattle.resync.specs.Block.{block, may_begin, none_valid, passed_to};
-ghost use Rattle.resync.specs.Search.{First, start_of, search_from, told_search, time_at, told_time};
+ghost use Rattle.resync.specs.Search.{First, search_refusal, search_from, told_search, time_at, told_time};
+ghost use Rattle.resync.specs.declared.SearchError.TheVariants as Why;
 
-use layout::{TRACE_LIMIT, ZLF_HEADER_SIZE};
-use record::Record;
+use layout::{Readable, Refusal, Trace, TraceTooLong, ZLF_HEADER_SIZE};
 
 // Consecutive records that must be valid before an offset is accepted.
 const CHAIN: usize = 3;
@@ -32,47 +31,60 @@ const NEAR: usize = 8;
 // How far pages, span and seeks search for a boundary.
 pub const DEFAULT_WINDOW: usize = 1_048_576;
 
-// Whether an offset is a boundary.
-#[derive(Clone, Copy)]
-pub enum Boundary {
-    Here,
-    NotHere,
+// Why a search gives nothing: the trace is over the limit, or the window's end is over the largest offset.
+#[derive(Clone, Copy, Debug, PartialEq, Eq)]
+pub enum SearchError {
     TraceTooLong,
+    WindowTooLong,
+}
+
+impl From<TraceTooLong> for SearchError {
+    ghost from_gives = { λ _ e. e ≡ Why.TraceTooLong };
+
+    fn from(_refusal: TraceTooLong) -> SearchError {
+        Self::TraceTooLong
+    }
+}
+
+impl Refusal for SearchError {
+    ghost number = { search_refusal };
+
+    fn number(self) -> u32 {
+        match self {
+            SearchError::TraceTooLong => 1,
+            SearchError::WindowTooLong => 5,
+        }
+    }
 }
 
 // What a search finds, and how many offsets it judged.
-#[derive(Clone, Copy)]
-pub enum Search {
-    Found { offset: usize, judged: usize },
-    Nothing { judged: usize },
-    TraceTooLong,
-    WindowTooLong,
+#[derive(Clone, Copy, Debug, PartialEq, Eq)]
+pub struct Search {
+    pub offset: Option<usize>,
+    pub judged: usize,
 }
 
 // The first record at or after an offset, and its time in milliseconds.
-#[derive(Clone, Copy)]
-pub enum RecordTime {
-    At { offset: usize, unix_millis: u64 },
-    Nothing,
-    TraceTooLong,
-    WindowTooLong,
+#[derive(Clone, Copy, Debug, PartialEq, Eq)]
+pub struct RecordTime {
+    pub offset: usize,
+    pub unix_millis: u64,
 }
 
 // True when `offset` begins a run of CHAIN valid records.
-fn begins_run(kinds: &[u8; 256], s: &[u8], offset: usize) -> bool
-    requires { length s.now ≤ trace_limit }
-    ensures { result ≡ boundary (next_at plausible kinds.now s.now) (length s.now) offset }
+fn begins_run(trace: Readable, offset: usize) -> bool
+    ensures { result ≡ boundary (next_at plausible trace.entry.kinds.now trace.entry.bytes.now) (length trace.entry.bytes.now) offset }
 {
-    let Record::Valid { header } = record::read_record(kinds, s, offset) else {
+    let Some(header) = record::record_at(trace, offset) else {
         return false;
     };
     let mut at = header.next_offset;
     for _ in 1..CHAIN {
         // Running off the end still counts: the last records of a trace cannot be followed by CHAIN more.
-        if s.len() <= at {
+        if trace.bytes.len() <= at {
             return true;
         }
-        let Record::Valid { header: next } = record::read_record(kinds, s, at) else {
+        let Some(next) = record::record_at(trace, at) else {
             return false;
         };
         at = next.next_offset;
@@ -81,17 +93,10 @@ fn begins_run(kinds: &[u8; 256], s: &[u8], offset: usize) -> bool
 }
 
 // Whether `offset` is a boundary.
-pub fn is_boundary(kinds: &[u8; 256], s: &[u8], offset: usize) -> Boundary
-    ensures { told_boundary result ≡ boundary_at plausible kinds.now s.now offset }
+pub fn is_boundary(trace: Trace, offset: usize) -> Result<bool, TraceTooLong>
+    ensures { told_boundary result ≡ boundary_at plausible trace.entry.kinds.now trace.entry.bytes.now offset }
 {
-    if TRACE_LIMIT < s.len() {
-        return Boundary::TraceTooLong;
-    }
-    if begins_run(kinds, s, offset) {
-        Boundary::Here
-    } else {
-        Boundary::NotHere
-    }
+    Ok(begins_run(trace.readable()?, offset))
 }
 
 // Whether the highest bytes of the ticks and of the length can be those of a valid record.
@@ -112,12 +117,6 @@ fn place_or_end(place: u8, ticks: u8, size: u8) -> u8
     }
 }
 
-fn earlier(a: u8, b: u8) -> u8
-    ensures { result ≡ min a b }
-{
-    if b < a { b } else { a }
-}
-
 // How many of the BLOCK offsets from `at` on are passed over: those before the first candidate. Every turn does the same, on bytes
 // alone, so that the compiler does 16 turns at once.
 fn passed_over(s: &[u8], at: usize) -> usize
@@ -126,10 +125,7 @@ fn passed_over(s: &[u8], at: usize) -> usize
 {
     let mut first = BLOCK as u8;
     for i in 0..BLOCK {
-        first = earlier(
-            first,
-            place_or_end(i as u8, s[at + i + TICKS_HIGH], s[at + i + LENGTH_HIGH]),
-        );
+        first = first.min(place_or_end(i as u8, s[at + i + TICKS_HIGH], s[at + i + LENGTH_HIGH]));
     }
     first as usize
 }
@@ -158,9 +154,9 @@ fn near_candidate(s: &[u8], start: usize, limit: usize) -> usize
     if limit - start < NEAR + LENGTH_HIGH {
         return start;
     }
-    for i in 0..NEAR {
-        if may_begin(s[start + i + TICKS_HIGH], s[start + i + LENGTH_HIGH]) {
-            return start + i;
+    for at in start..start + NEAR {
+        if may_begin(s[at + TICKS_HIGH], s[at + LENGTH_HIGH]) {
+            return at;
         }
     }
     start + NEAR
@@ -181,86 +177,69 @@ fn candidate(s: &[u8], start: usize, limit: usize, near: bool) -> usize
 
 // The first boundary among the offsets from `start` and below `limit`, or `limit`. Many searches start at a boundary, so `start` is
 // judged before any candidate is looked for.
-fn first_boundary(kinds: &[u8; 256], s: &[u8], start: usize, limit: usize) -> usize
-    requires { (length s.now ≤ trace_limit) × ((start ≤ limit) × (limit ≤ length s.now)) }
-    ensures { First (boundary (next_at plausible kinds.now s.now) (length s.now)) start limit result }
+fn first_boundary(trace: Readable, start: usize, limit: usize) -> usize
+    requires { (start ≤ limit) × (limit ≤ length trace.bytes.now) }
+    ensures { First (boundary (next_at plausible trace.entry.kinds.now trace.entry.bytes.now) (length trace.entry.bytes.now)) start limit result }
 {
     let mut offset = start;
     let mut near = false;
     while offset < limit {
-        if begins_run(kinds, s, offset) {
+        if begins_run(trace, offset) {
             return offset;
         }
-        let next = candidate(s, offset + 1, limit, near);
+        let next = candidate(trace.bytes, offset + 1, limit, near);
         near = next - offset <= NEAR;
         offset = next;
     }
     limit
 }
 
-// Where a search starts.
-fn start_of(from: usize) -> usize
-    ensures { result ≡ start_of from }
-{
-    if from < ZLF_HEADER_SIZE {
-        ZLF_HEADER_SIZE
-    } else {
-        from
-    }
-}
-
-fn smaller(a: usize, b: usize) -> usize
-    ensures { result ≡ min a b }
-{
-    if a < b { a } else { b }
-}
-
 // The first boundary at or after `from`, not below the header, of the offsets of a window.
-pub fn next_record_at(kinds: &[u8; 256], s: &[u8], from: usize, window: usize) -> Search
-    ensures { told_search result ≡ search_from plausible kinds.now s.now from window }
+pub fn search_from(trace: Readable, from: usize, window: usize) -> Result<Search, SearchError>
+    ensures { told_search result ≡ search_from plausible trace.entry.kinds.now trace.entry.bytes.now from window }
 {
-    if TRACE_LIMIT < s.len() {
-        return Search::TraceTooLong;
-    }
-    let start = start_of(from);
-    if usize::MAX - start < window {
-        return Search::WindowTooLong;
-    }
-    let limit = smaller(start + window, s.len());
+    let start = from.max(ZLF_HEADER_SIZE);
+    let end = start.checked_add(window).ok_or(SearchError::WindowTooLong)?;
+    let limit = end.min(trace.bytes.len());
     if limit <= start {
-        return Search::Nothing { judged: 0 };
+        return Ok(Search {
+            offset: None,
+            judged: 0,
+        });
     }
-    let offset = first_boundary(kinds, s, start, limit);
+    let offset = first_boundary(trace, start, limit);
     if offset < limit {
-        return Search::Found {
-            offset,
+        return Ok(Search {
+            offset: Some(offset),
             judged: offset - start + 1,
-        };
+        });
     }
-    Search::Nothing {
+    Ok(Search {
+        offset: None,
         judged: limit - start,
-    }
+    })
+}
+
+// The same of any trace: one over the limit is refused.
+pub fn next_record_at(trace: Trace, from: usize, window: usize) -> Result<Search, SearchError>
+    ensures { told_search result ≡ search_from plausible trace.entry.kinds.now trace.entry.bytes.now from window }
+{
+    search_from(trace.readable()?, from, window)
 }
 
 // Capture time of the first record at or after `offset`, with its position.
-pub fn record_time_at(kinds: &[u8; 256], s: &[u8], offset: usize) -> RecordTime
-    ensures { told_time result ≡ time_at plausible kinds.now s.now offset }
+pub fn record_time_at(trace: Trace, offset: usize) -> Result<Option<RecordTime>, SearchError>
+    ensures { told_time result ≡ time_at plausible trace.entry.kinds.now trace.entry.bytes.now offset }
 {
-    match next_record_at(kinds, s, offset, DEFAULT_WINDOW) {
-        Search::Found {
-            offset: at,
-            judged: _,
-        } => {
-            let Record::Valid { header } = record::read_record(kinds, s, at) else {
-                return RecordTime::Nothing;
-            };
-            RecordTime::At {
-                offset: at,
-                unix_millis: header.unix_millis,
-            }
-        }
-        Search::Nothing { judged: _ } => RecordTime::Nothing,
-        Search::TraceTooLong => RecordTime::TraceTooLong,
-        Search::WindowTooLong => RecordTime::WindowTooLong,
-    }
+    let trace = trace.readable()?;
+    let Some(at) = search_from(trace, offset, DEFAULT_WINDOW)?.offset else {
+        return Ok(None);
+    };
+    let Some(header) = record::record_at(trace, at) else {
+        return Ok(None);
+    };
+    Ok(Some(RecordTime {
+        offset: at,
+        unix_millis: header.unix_millis,
+    }))
 }

@@ -5,9 +5,9 @@ use lib.ListN.{length}
 use mathlib.Core.List.{List, [], ◌∷◌}
 use mathlib.Core.Path.{◌≡◌, refl, sym, ap}
 use native.Mathlib.Omega.{arith}
-use Rattle.pti.specs.declared.PtiFrame.{PtiFrame}
+use Rattle.std.specs.Prelude.{None, Some}
 use Rattle.rows.specs.Frames.{Placed, first_of}
-use Rattle.rows.specs.declared.Next.{Next}
+use Rattle.rows.specs.declared.NextFrame.{NextFrame}
 
 -- of a frame f from a place on in a payload of n bytes, and the frames after it; g gives the frames from each place on
 pub record Onward (g : ℕ → List Placed) (n from : ℕ) (f : Placed) (fs : List Placed) : Type 0 where
@@ -28,24 +28,23 @@ earlier g n a b h (f ∷ fs) o = record { rest = o.rest; further = omega (arith,
 
 module _ (g : ℕ → List Placed) (n : ℕ) (goes : (from : ℕ) → Goes g n from (g from)) where
   -- what the first frame says
-  first_by : (from : ℕ) (fs : List Placed) → Goes g n from fs → (f : PtiFrame) (next : ℕ) → first_of fs ≡ Next.Frame f next
-      → (fs ≡ record { frame = f; next = next } ∷ g next) × (from < next) × (next ≤ n) × (f.mpdu ≤ n)
+  first_by : (from : ℕ) (fs : List Placed) → Goes g n from fs → (x : NextFrame) → first_of fs ≡ Some x
+      → (fs ≡ record { frame = x.frame; next = x.next } ∷ g x.next) × (from < x.next) × (x.next ≤ n) × (x.frame.mpdu ≤ n)
   unfolding Goes
-  first_by from [] o f next e = absurd (let z : ◌≡◌ {A = ℕ} 0 1 = cc in omega arith)
-  first_by from (x ∷ fs) o f next e =
-      let frame_is : x.frame ≡ f = cc in
-      let next_is : x.next ≡ next = cc in
-      rw (sym frame_is) (rw (sym next_is) (ap (λ (l : List Placed). x ∷ l) (sym o.rest), o.further, o.inside, o.mpdu_inside))
+  first_by from [] o x e = absurd cc
+  first_by from (f ∷ fs) o x e =
+      let is : x ≡ record { frame = f.frame; next = f.next } = cc in
+      rw is (ap (λ (l : List Placed). f ∷ l) (sym o.rest), o.further, o.inside, o.mpdu_inside)
 
-  pub first_frame : (from : ℕ) (f : PtiFrame) (next : ℕ) → Next.Frame f next ≡ first_of (g from)
-      → (g from ≡ record { frame = f; next = next } ∷ g next) × (from < next) × (next ≤ n) × (f.mpdu ≤ n)
-  first_frame from f next e = first_by from (g from) (goes from) f next (sym e)
+  pub first_frame : (from : ℕ) (x : NextFrame) → Some x ≡ first_of (g from)
+      → (g from ≡ record { frame = x.frame; next = x.next } ∷ g x.next) × (from < x.next) × (x.next ≤ n) × (x.frame.mpdu ≤ n)
+  first_frame from x e = first_by from (g from) (goes from) x (sym e)
 
-  none_by : (fs : List Placed) → first_of fs ≡ Next.End → fs ≡ []
+  none_by : (fs : List Placed) → first_of fs ≡ None → fs ≡ []
   none_by [] e = refl
-  none_by (f ∷ fs) e = absurd (let z : ◌≡◌ {A = ℕ} 0 1 = cc in omega arith)
+  none_by (f ∷ fs) e = absurd cc
 
-  pub no_frame_lem : (from : ℕ) → Next.End ≡ first_of (g from) → g from ≡ []
+  pub no_frame_lem : (from : ℕ) → None ≡ first_of (g from) → g from ≡ []
   no_frame_lem from e = none_by (g from) (sym e)
 
   -- there are no more frames than bytes

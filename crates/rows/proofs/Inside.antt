@@ -13,9 +13,9 @@ use Rattle.pti.proofs.Mpdus.{mpdu_inside}
 use Rattle.bracket.proofs.Splitting.{body_inside, next_further}
 use Rattle.bracket.specs.Bracket.{next_record}
 use Rattle.pti.specs.Frame.{frame_of}
-use Rattle.bracket.specs.declared.Split.{Split}
-use Rattle.bracket.specs.declared.Split.TheVariants.{Body, End}
-use Rattle.pti.specs.declared.Parsed.{Parsed}
+use Rattle.bracket.specs.declared.Body.{Body}
+use Rattle.pti.specs.declared.PtiFrame.{PtiFrame}
+use Rattle.std.specs.Prelude.{Option, None, Some}
 use Rattle.zniffer_laws.proofs.Theorems.{numbers_agree, payload_ends_there}
 use Rattle.zniffer.specs.Parse.{fresh_parser, run_from}
 use Rattle.zniffer_laws.specs.Statements.{length_of, EndsThere}
@@ -34,19 +34,19 @@ AllIn n [] = Unit
 AllIn n (f ∷ fs) = (f.frame.mpdu + f.frame.mpdu_len ≤ n) × AllIn n fs
 
 module _ (p : List ℕ) where
-  held_in : (at len : ℕ) (r : Parsed) → frame_of (take len (drop at p)) ≡ r → at + len ≤ length p → (rest : List Placed) → AllIn (length p) rest → AllIn (length p) (held_by at len r ++ rest)
+  held_in : (at len : ℕ) (r : Option PtiFrame) → frame_of (take len (drop at p)) ≡ r → at + len ≤ length p → (rest : List Placed) → AllIn (length p) rest → AllIn (length p) (held_by at len r ++ rest)
   unfolding AllIn
-  held_in at len Parsed.Nothing e i rest h = h
-  held_in at len (Parsed.Frame f) e i rest h =
+  held_in at len None e i rest h = h
+  held_in at len (Some f) e i rest h =
       let size : length (take len (drop at p)) ≡ len = length-take-le len (drop at p) (simp length-drop (omega arith)) in
       (omega (arith, mpdu_inside (take len (drop at p)) f e), h)
 
-  pti_at : (from : ℕ) → ((next : ℕ) → from < next → AllIn (length p) (pti_from p next)) → (r : Split) → next_record p from ≡ r → AllIn (length p) (pti_from p from)
+  pti_at : (from : ℕ) → ((next : ℕ) → from < next → AllIn (length p) (pti_from p next)) → (r : Option Body) → next_record p from ≡ r → AllIn (length p) (pti_from p from)
   unfolding AllIn
-  pti_at from ih End e = rw (pti.no_body p from e) tt
-  pti_at from ih (Body at len next) e =
-      rw (pti.body p from at len next e)
-      (held_in at len (frame_of (take len (drop at p))) refl (body_inside p from at len next e) (pti_from p next) (ih next (next_further p from at len next e)))
+  pti_at from ih None e = rw (pti.no_body p from e) tt
+  pti_at from ih (Some b) e =
+      rw (pti.body p from b e)
+      (held_in b.at b.len (frame_of (take b.len (drop b.at p))) refl (body_inside p from b e) (pti_from p b.next) (ih b.next (next_further p from b e)))
 
   pub pti_by : (t from : ℕ) → length p ≤ from + t → AllIn (length p) (pti_from p from)
   unfolding AllIn

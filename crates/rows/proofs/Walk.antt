@@ -1,15 +1,15 @@
 -- A walk over the frames of a record's payload: it goes on from the place that the last frame named, and there are no more frames than
 -- bytes. Assumes nothing.
-use Prim.Native.Nat.{ℕ, ◌≤◌, ◌<◌}
-use borrow.Author.Tests.{eq-eqb, ne_eqb}
+use Prim.Native.Nat.{ℕ, ◌+◌, ◌≤◌, ◌<◌}
 use lib.Dec.{eqb}
 use lib.ListN.{length}
 use mathlib.Core.Bool.{Bool, true, false, ◌||◌, cond}
 use mathlib.Core.List.{List, [], ◌∷◌}
-use mathlib.Core.Path.{◌≡◌, refl}
-use Rattle.pti.specs.declared.PtiFrame.{PtiFrame}
+use mathlib.Core.Path.{◌≡◌, refl, ap}
+use native.Mathlib.Omega.{arith}
+use Rattle.std.specs.Prelude.{None, Some}
 use Rattle.rows.specs.Frames.{first_of, pti_from, zniffer_from, frames_from}
-use Rattle.rows.specs.declared.Next.{Next}
+use Rattle.rows.specs.declared.NextFrame.{NextFrame}
 use Rattle.rows.proofs.Goes.{Goes, first_frame, no_frame_lem, count_most}
 use Rattle.rows.proofs.Pti as pti
 use Rattle.rows.proofs.Zniffer as zniffer
@@ -26,11 +26,11 @@ module _ (kind : ℕ) (out : Bool) (p : List ℕ) where
   goes from = chosen (eqb kind 1 || eqb kind 2) (eqb kind 3) from
 
   -- a frame, and the frames after it
-  pub one_more_lem : (from : ℕ) (f : PtiFrame) (next : ℕ) → Next.Frame f next ≡ first_of (frames_from kind out p from)
-      → (frames_from kind out p from ≡ record { frame = f; next = next } ∷ frames_from kind out p next) × (from < next) × (next ≤ length p) × (f.mpdu ≤ length p)
+  pub one_more_lem : (from : ℕ) (x : NextFrame) → Some x ≡ first_of (frames_from kind out p from)
+      → (frames_from kind out p from ≡ record { frame = x.frame; next = x.next } ∷ frames_from kind out p x.next) × (from < x.next) × (x.next ≤ length p) × (x.frame.mpdu ≤ length p)
   one_more_lem = first_frame (frames_from kind out p) (length p) goes
 
-  pub none_left : (from : ℕ) → Next.End ≡ first_of (frames_from kind out p from) → frames_from kind out p from ≡ []
+  pub none_left : (from : ℕ) → None ≡ first_of (frames_from kind out p from) → frames_from kind out p from ≡ []
   none_left = no_frame_lem (frames_from kind out p) (length p) goes
 
   pub at_most : length (frames_from kind out p 0) ≤ length p
@@ -45,15 +45,15 @@ module _ (kind : ℕ) (out : Bool) (p : List ℕ) where
   unfolding frames_from
   past_end from h = past_by (eqb kind 1 || eqb kind 2) (eqb kind 3) from h
 
-  -- the kinds
+  -- the PTI kinds
   pub is_pti_lem : (from : ℕ) → (eqb kind 1 || eqb kind 2) ≡ true → pti_from p from ≡ frames_from kind out p from
   unfolding frames_from
   is_pti_lem from e = rw e
 
-  pub is_zniffer : (from : ℕ) → (eqb kind 1 || eqb kind 2) ≡ false → kind ≡ 3 → zniffer_from out p from ≡ frames_from kind out p from
-  unfolding frames_from
-  is_zniffer from e k = rw e (simp (eq-eqb kind 3 k))
+  -- the same of how many there are
+  pub counted : (from : ℕ) (x : NextFrame) → Some x ≡ first_of (frames_from kind out p from)
+      → (from < x.next) × (x.next ≤ length p) × (length (frames_from kind out p from) ≡ length (frames_from kind out p x.next) + 1)
+  counted from x e = let step = one_more_lem from x e in (step.1, step.2, omega (arith, ap length step.0))
 
-  pub is_other : (from : ℕ) → (eqb kind 1 || eqb kind 2) ≡ false → (kind ≡ 3 → ⊥) → [] ≡ frames_from kind out p from
-  unfolding frames_from
-  is_other from e k = rw e (simp (ne_eqb kind 3 k))
+  pub none_counted : (from : ℕ) → None ≡ first_of (frames_from kind out p from) → length (frames_from kind out p from) ≡ 0
+  none_counted from e = ap length (none_left from e)

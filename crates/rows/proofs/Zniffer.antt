@@ -1,7 +1,7 @@
 -- The frames that a payload's bytes complete: a run's part in them, and that a walk over them goes on. Assumes nothing.
 use Prim.Native.Nat.{ℕ, zero, suc, ◌+◌, ◌-◌, ◌≤◌, ◌<◌}
 use lib.ListN.{length, take, drop, length-drop, drop_of_length-le}
-use lib.Seq.{drop-drop, take_all}
+use lib.Seq.{drop-drop}
 use mathlib.Core.Bool.{Bool, true, false, true≢false}
 use mathlib.Core.List.{List, [], ◌∷◌, ◌++◌}
 use mathlib.Core.Path.{◌≡◌, refl, sym, ap, ◌∙◌}
@@ -9,18 +9,19 @@ use native.Mathlib.Decide.{dec_le}
 use native.Mathlib.Numerals.{unary_clauses}
 use native.Mathlib.Omega.{arith}
 use native.Mathlib.Nat.{add_assoc}
+use Rattle.std.proofs.lemmas.List.{take_rest}
 use Rattle.choice.proofs.Choice.{either}
 use Rattle.zniffer_laws.proofs.AfterStep.{fresh_after}
 use Rattle.zniffer_core.proofs.RunLaws.{used_most, used_some}
-use Rattle.pti.specs.declared.PtiFrame.{PtiFrame}
+use Rattle.std.specs.Prelude.{None, Some}
 use Rattle.zniffer_numbers.specs.Numbers.{fresh_core, goes_on}
 use Rattle.zniffer_core.specs.Run.{core_step_of, core_run_from}
 use Rattle.zniffer_numbers.specs.declared.Core.{Core}
 use Rattle.zniffer_core.specs.declared.CoreRan.{CoreRan}
 use Rattle.zniffer_numbers.specs.declared.ParserResult.{ParserResult}
 use Rattle.zniffer_numbers.specs.declared.ParserResult.TheVariants.{ValidCommand, ValidFrame, IncompleteFrame, InvalidFrame}
-use Rattle.rows.specs.Frames.{zniffer_frame, completed, completed_by, zniffer_from, first_of}
-use Rattle.rows.specs.declared.Next.{Next}
+use Rattle.rows.specs.Frames.{Placed, completed, completed_by, zniffer_from, first_of}
+use Rattle.rows.specs.declared.NextFrame.{NextFrame}
 use Rattle.rows.proofs.Goes.{Goes, earlier}
 
 -- while more bytes are wanted nothing is complete
@@ -116,40 +117,46 @@ module _ (out : Bool) (p : List ℕ) where
   pub goes : (from : ℕ) → Goes (zniffer_from out p) (length p) from (zniffer_from out p from)
   goes from = goes_by (length p) from (omega arith)
 
--- a result that neither wants more bytes nor is a frame completes nothing
-quiet : (out : Bool) (end : ℕ) (r : ParserResult) → (r ≡ IncompleteFrame → ⊥) → ((w k v g s n : ℕ) → r ≡ ValidFrame w k v g s n → ⊥)
-    → (goes_on r ≡ false) × (completed out end r ≡ [])
-quiet out end (ValidCommand i n) a b = (refl, refl)
-quiet out end InvalidFrame a b = (refl, refl)
-quiet out end IncompleteFrame a b = absurd (a refl)
-quiet out end (ValidFrame w k v g s n) a b = absurd (b w k v g s n refl)
+-- a result that does not want more bytes completes a frame or none
+done : (out : Bool) (end : ℕ) (r : ParserResult) → (r ≡ IncompleteFrame → ⊥) → goes_on r ≡ false
+done out end (ValidCommand i n) a = refl
+done out end InvalidFrame a = refl
+done out end IncompleteFrame a = absurd (a refl)
+done out end (ValidFrame w k v g s n) a = refl
 
--- what the code meets: the place reached gives the same frames as the place given, r is what the bytes from there gave
-module _ (out : Bool) (p : List ℕ) (at from : ℕ) (inv : zniffer_from out p from ≡ zniffer_from out p at) (r : CoreRan) (r-is : r ≡ core_run_from 0 (take (length p - from) (drop from p)) fresh_core) where
-  is_run : r ≡ ran out p from
-  is_run = r-is ∙ ap (λ (l : List ℕ). core_run_from 0 l fresh_core) (take_all (length p - from) (drop from p) (simp length-drop (omega arith)))
+none_of : (l : List Placed) → None ≡ first_of l → l ≡ []
+none_of [] e = refl
+none_of (f ∷ fs) e = absurd cc
 
-  pub code_inside : from ≤ length p → from + r.used ≤ length p
-  code_inside h = rw is_run (used_inside out p from h)
+first_of_two : (l m : List Placed) (x : NextFrame) → Some x ≡ first_of l → Some x ≡ first_of (l ++ m)
+first_of_two [] m x e = absurd cc
+first_of_two (f ∷ fs) m x e = e
 
-  pub code_further : from < length p → from < from + r.used
-  code_further h = rw is_run (used_further out p from h)
+-- what the code meets from a place on; r is what the bytes from there gave
+module _ (out : Bool) (p : List ℕ) (from : ℕ) where
+  pub none_met : length p ≤ from → None ≡ first_of (zniffer_from out p from)
+  none_met h = rw (past_end out p from h)
 
-  pub incomplete : r.result ≡ IncompleteFrame → Next.End ≡ first_of (zniffer_from out p at)
-  incomplete e =
-      let on : goes_on (ran out p from).result ≡ true = ap (λ (x : CoreRan). goes_on x.result) (sym is_run) ∙ ap goes_on e in
-      ap first_of (sym (sym inv ∙ wants_more out p from on))
+  module _ (r : CoreRan) (r-is : r ≡ core_run_from 0 (take (length p - from) (drop from p)) fresh_core) where
+    is_run : r ≡ ran out p from
+    is_run = r-is ∙ ap (λ (l : List ℕ). core_run_from 0 l fresh_core) (take_rest p from)
 
-  ended : goes_on r.result ≡ false → zniffer_from out p at ≡ completed out (from + r.used) r.result ++ zniffer_from out p (from + r.used)
-  ended e = sym inv ∙ rw is_run (gave out p from (rw is_run at e))
+    pub run_met : from < length p → (from < from + r.used) × (from + r.used ≤ length p)
+    run_met h = rw is_run (used_further out p from h, used_inside out p from (omega arith))
 
-  pub a_frame : (w k v g s n : ℕ) → r.result ≡ ValidFrame w k v g s n → (f : PtiFrame) → f ≡ zniffer_frame out (from + r.used) k v g s n → Next.Frame f (from + r.used) ≡ first_of (zniffer_from out p at)
-  a_frame w k v g s n e f f-is =
-      let is : zniffer_from out p at ≡ completed out (from + r.used) (ValidFrame w k v g s n) ++ zniffer_from out p (from + r.used) = rw e at (ended (ap goes_on e)) in
-      rw is (rw f-is)
+    pub incomplete : r.result ≡ IncompleteFrame → None ≡ first_of (zniffer_from out p from)
+    incomplete e =
+        let on : goes_on (ran out p from).result ≡ true = ap (λ (x : CoreRan). goes_on x.result) (sym is_run) ∙ ap goes_on e in
+        rw (wants_more out p from on)
 
-  pub passed : (r.result ≡ IncompleteFrame → ⊥) → ((w k v g s n : ℕ) → r.result ≡ ValidFrame w k v g s n → ⊥)
-      → zniffer_from out p (from + r.used) ≡ zniffer_from out p at
-  passed a b =
-      let q = quiet out (from + r.used) r.result a b in
-      sym (rw q.1 at (ended q.0))
+    module _ (a : r.result ≡ IncompleteFrame → ⊥) where
+      ended : zniffer_from out p from ≡ completed out (from + r.used) r.result ++ zniffer_from out p (from + r.used)
+      ended = rw is_run (gave out p from (rw is_run at (done out (from + r.used) r.result a)))
+
+      pub a_frame : (x : NextFrame) → Some x ≡ first_of (completed out (from + r.used) r.result) → Some x ≡ first_of (zniffer_from out p from)
+      a_frame x e = rw ended (first_of_two (completed out (from + r.used) r.result) (zniffer_from out p (from + r.used)) x e)
+
+      pub passed : None ≡ first_of (completed out (from + r.used) r.result) → zniffer_from out p (from + r.used) ≡ zniffer_from out p from
+      passed e = sym (rw (none_of (completed out (from + r.used) r.result) e) at ended)
+
+pub ruleset turns = (none_met, run_met, incomplete, a_frame, passed)

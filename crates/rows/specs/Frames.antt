@@ -1,18 +1,17 @@
 -- The frames of a record's payload, in order, each with the place in the payload after the bytes that hold it.
-use Rattle.std.specs.Prelude.{ℕ, ◌+◌, ◌-◌, eqb, take, drop, Bool, ◌||◌, cond}
+use Rattle.std.specs.Prelude.{ℕ, ◌+◌, ◌-◌, eqb, take, drop, Bool, ◌||◌, cond, Option, None, Some}
 use mathlib.Core.List.{List, [], ◌∷◌, ◌++◌, flat_map}
 use Rattle.std.specs.Int.{w8}
 use Rattle.std.proofs.Common.{to_z}
 use Rattle.bracket.specs.Bracket.{Piece, bodies_from}
 use Rattle.pti.specs.Frame.{direction_of, frame_of}
 use Rattle.pti.specs.declared.PtiFrame.{PtiFrame}
-use Rattle.pti.specs.declared.Parsed.{Parsed}
 use Rattle.zniffer_numbers.specs.Numbers.{fresh_core}
 use Rattle.zniffer_core.specs.Run.{core_step_of}
 use Rattle.zniffer_numbers.specs.declared.Core.{Core}
 use Rattle.zniffer_numbers.specs.declared.ParserResult.{ParserResult}
 use Rattle.zniffer_numbers.specs.declared.ParserResult.TheVariants.{ValidCommand, ValidFrame, IncompleteFrame, InvalidFrame}
-use Rattle.rows.specs.declared.Next.{Next}
+use Rattle.rows.specs.declared.NextFrame.{NextFrame}
 
 -- a frame, its MPDU's place counted in the payload, and the place after the bytes that hold it
 pub record Placed : Type 0 where
@@ -34,9 +33,9 @@ shifted place f =
     }
 
 -- the frame of a body, if it holds one; one byte, 0x5D, stands after a body
-abbrev pub held_by : ℕ → ℕ → Parsed → List Placed
-held_by at len (Parsed.Frame f) = record { frame = shifted at f; next = at + len + 1 } ∷ []
-held_by at len Parsed.Nothing = []
+abbrev pub held_by : ℕ → ℕ → Option PtiFrame → List Placed
+held_by at len (Some f) = record { frame = shifted at f; next = at + len + 1 } ∷ []
+held_by at len None = []
 
 abbrev pub held_in : List ℕ → Piece → List Placed
 held_in payload b = held_by b.at b.len (frame_of (take b.len (drop b.at payload)))
@@ -82,6 +81,6 @@ frames_from kind outgoing payload at =
     cond (eqb kind 1 || eqb kind 2) (pti_from payload at) (cond (eqb kind 3) (zniffer_from outgoing payload at) [])
 
 -- the first of some frames
-abbrev pub first_of : List Placed → Next
-first_of [] = Next.End
-first_of (f ∷ fs) = Next.Frame f.frame f.next
+abbrev pub first_of : List Placed → Option NextFrame
+first_of [] = None
+first_of (f ∷ fs) = Some (record { frame = f.frame; next = f.next })

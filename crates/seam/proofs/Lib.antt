@@ -1,5 +1,4 @@
 pub mod Walks
-pub mod Openings
 pub mod Seams
 pub mod SeamLaws
 pub mod Boundaries

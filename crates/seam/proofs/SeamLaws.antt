@@ -7,7 +7,7 @@ use mathlib.Core.Bool.{Bool, true, false, cond, true≢false, false≢true}
 use lib.ListN.{length}
 use mathlib.Core.List.{List}
 use mathlib.Core.Logic.{◌↔◌}
-use mathlib.Core.Option.{Option, none, some}
+use Rattle.std.specs.Prelude.{Option, None, Some}
 use mathlib.Core.Path.{◌≡◌, refl, sym, ap, ◌∙◌}
 use native.Mathlib.Numerals.{add-one}
 use native.Mathlib.Omega.{arith}
@@ -26,13 +26,13 @@ module _ (next : ℕ → Option ℕ) (n : ℕ) (steps : Steps next n) where
   reach_unbroken ends = reach_stops next n steps n (past_end next n steps n (omega arith))
   reach_unbroken (more {at} {m} {k} e u) = reach_on next n steps at m e ∙ rw (reach_unbroken u) (rw (add-one k))
 
-  unbroken_stop : (at : ℕ) → next at ≡ none → (reach next n at).place ≡ n → Unbroken next n at (reach next n at).records
+  unbroken_stop : (at : ℕ) → next at ≡ None → (reach next n at).place ≡ n → Unbroken next n at (reach next n at).records
   unbroken_stop at e p =
       let r = reach_stops next n steps at e in
       let here : at ≡ n = sym (ap (λ (x : Reached). x.place) r) ∙ p in
       rw r (rw here ends)
 
-  unbroken_step : (at m : ℕ) → next at ≡ some m → ((reach next n m).place ≡ n → Unbroken next n m (reach next n m).records)
+  unbroken_step : (at m : ℕ) → next at ≡ Some m → ((reach next n m).place ≡ n → Unbroken next n m (reach next n m).records)
       → (reach next n at).place ≡ n → Unbroken next n at (reach next n at).records
   unbroken_step at m e ih p =
       let r = reach_on next n steps at m e in
@@ -44,24 +44,24 @@ module _ (next : ℕ → Option ℕ) (n : ℕ) (steps : Steps next n) where
   unbroken_reach = by_records next n steps (λ (at : ℕ). (reach next n at).place ≡ n → Unbroken next n at (reach next n at).records) unbroken_stop unbroken_step
 
   -- one record more in front
-  front : (at m : ℕ) → next at ≡ some m → (k : ℕ) → after next k m ≡ after next (suc k) at
+  front : (at m : ℕ) → next at ≡ Some m → (k : ℕ) → after next k m ≡ after next (suc k) at
   front at m e zero = sym e
   front at m e (suc k) = ap (λ (o : Option ℕ). onward o next) (front at m e k)
 
-  no_front : (at : ℕ) → next at ≡ none → (k : ℕ) → after next (suc k) at ≡ none
+  no_front : (at : ℕ) → next at ≡ None → (k : ℕ) → after next (suc k) at ≡ None
   no_front at e zero = e
   no_front at e (suc k) = rw (no_front at e k)
 
   -- the walk ends where no valid record is, after so many
   pub record Ran (at : ℕ) : Type 0 where
-    pub run : after next (reach next n at).records at ≡ some (reach next n at).place
-    pub stops : next (reach next n at).place ≡ none
+    pub run : after next (reach next n at).records at ≡ Some (reach next n at).place
+    pub stops : next (reach next n at).place ≡ None
     pub inside : at ≤ n → (reach next n at).place ≤ n
 
-  ran_stop : (at : ℕ) → next at ≡ none → Ran at
+  ran_stop : (at : ℕ) → next at ≡ None → Ran at
   ran_stop at e = record { run = rw (reach_stops next n steps at e); stops = rw (reach_stops next n steps at e) e; inside = λ h. rw (reach_stops next n steps at e) h }
 
-  ran_step : (at m : ℕ) → next at ≡ some m → Ran m → Ran at
+  ran_step : (at m : ℕ) → next at ≡ Some m → Ran m → Ran at
   ran_step at m e r =
       record {
         run = rw (reach_on next n steps at m e) (rw (add-one (reach next n m).records) (sym (front at m e (reach next n m).records) ∙ r.run));
@@ -72,12 +72,12 @@ module _ (next : ℕ → Option ℕ) (n : ℕ) (steps : Steps next n) where
   ran : (at : ℕ) → Ran at
   ran = by_records next n steps Ran ran_stop ran_step
 
-  broken_reach_by : (k at place : ℕ) → (o : Option ℕ) → next at ≡ o → after next (suc k) at ≡ some place → next place ≡ none
-      → ((m : ℕ) → after next k m ≡ some place → reach next n m ≡ reached place k) → reach next n at ≡ reached place (suc k)
-  broken_reach_by k at place none e run stops ih = absurd (let none_there = no_front at e k in let z : ◌≡◌ {A = ℕ} 0 1 = cc in omega arith)
-  broken_reach_by k at place (some m) e run stops ih = reach_on next n steps at m e ∙ rw (ih m (front at m e k ∙ run)) (rw (add-one k))
+  broken_reach_by : (k at place : ℕ) → (o : Option ℕ) → next at ≡ o → after next (suc k) at ≡ Some place → next place ≡ None
+      → ((m : ℕ) → after next k m ≡ Some place → reach next n m ≡ reached place k) → reach next n at ≡ reached place (suc k)
+  broken_reach_by k at place None e run stops ih = absurd (let none_there = no_front at e k in let z : ◌≡◌ {A = ℕ} 0 1 = cc in omega arith)
+  broken_reach_by k at place (Some m) e run stops ih = reach_on next n steps at m e ∙ rw (ih m (front at m e k ∙ run)) (rw (add-one k))
 
-  broken_reach : (k at place : ℕ) → after next k at ≡ some place → next place ≡ none → reach next n at ≡ reached place k
+  broken_reach : (k at place : ℕ) → after next k at ≡ Some place → next place ≡ None → reach next n at ≡ reached place k
   broken_reach zero at place run stops = let here : at ≡ place = cc in rw here (reach_stops next n steps place stops)
   broken_reach (suc k) at place run stops = broken_reach_by k at place (next at) refl run stops (λ m r. broken_reach k m place r stops)
 

@@ -1,8 +1,8 @@
 -- Opening a trace as a cursor.
-use Rattle.std.specs.Prelude.{ℕ, ltb, eqb, length, cond, List}
+use Rattle.std.specs.Prelude.{ℕ, ltb, eqb, length, cond, List, Result, Ok, Err}
 use Rattle.layout.specs.Layout.{le_at, header_size, trace_limit}
-use Rattle.seam.specs.declared.Opening.{Opening}
-use Rattle.seam.specs.declared.Opening.TheVariants.{Opened, TraceTooLong, TraceTooShort, OtherVersion}
+use Rattle.seam.specs.declared.OpenError.{OpenError}
+use Rattle.seam.specs.declared.OpenError.TheVariants.{TraceTooLong, TraceTooShort, OtherVersion}
 
 -- what opening answers: the refusal's number or 0, and the version found; what is not said is 0
 pub record OpeningTold : Type 0 where
@@ -24,9 +24,15 @@ opening_of s expected =
     (cond (ltb (length s) header_size) (opening_told 2 0)
     (cond (eqb (version_of s) expected) (opening_told 0 (version_of s)) (opening_told 4 (version_of s))))
 
+-- the refusals' numbers
+abbrev pub open_refusal : OpenError → ℕ
+open_refusal TraceTooLong = 1
+open_refusal TraceTooShort = 2
+open_refusal (OtherVersion version) = 4
+
 -- each answer in the paper's numbers
-abbrev pub told_opening : Opening → OpeningTold
-told_opening (Opened version) = opening_told 0 version
-told_opening TraceTooLong = opening_told 1 0
-told_opening TraceTooShort = opening_told 2 0
-told_opening (OtherVersion version) = opening_told 4 version
+abbrev pub told_opening : Result ℕ OpenError → OpeningTold
+told_opening (Ok version) = opening_told 0 version
+told_opening (Err TraceTooLong) = opening_told 1 0
+told_opening (Err TraceTooShort) = opening_told 2 0
+told_opening (Err (OtherVersion version)) = opening_told 4 version

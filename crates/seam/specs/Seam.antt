@@ -1,22 +1,23 @@
 -- The seam check, over a record test: a function that gives at a place the place after its valid record, or none.
-use Rattle.std.specs.Prelude.{ℕ, suc, ◌+◌, ◌<◌, ltb, eqb, length, Bool, true, false, cond, ◌||◌, List, ◌≡◌}
-use Rattle.std.proofs.Math.Option.{Option, none, some}
+use Rattle.std.specs.Prelude.{ℕ, suc, ◌+◌, ◌<◌, ltb, eqb, length, Bool, true, false, cond, ◌||◌, List, ◌≡◌, Option, None, Some, Result, Ok, Err}
 use Rattle.layout.specs.Layout.{header_size, trace_limit}
 use Rattle.seam.specs.Walk.{walk}
 use Rattle.resync.specs.Boundary.{after}
 use Rattle.record.specs.Record.{Limits, next_at}
 use Rattle.seam.specs.declared.Seam.{Seam}
-use Rattle.seam.specs.declared.Seam.TheVariants.{Unbroken as UnbrokenAnswer, Broken as BrokenAnswer, TraceTooLong, PlaceOutside}
+use Rattle.seam.specs.declared.Seam.TheVariants.{Unbroken as UnbrokenAnswer, Broken as BrokenAnswer}
+use Rattle.seam.specs.declared.SeamError.{SeamError}
+use Rattle.seam.specs.declared.SeamError.TheVariants.{TraceTooLong, PlaceOutside}
 
 -- k valid records follow one another from a place to the last byte of the n
 pub data Unbroken (next : ℕ → Option ℕ) (n : ℕ) : ℕ → ℕ → Type 0 where
   ends : Unbroken next n n 0
-  more : {at m k : ℕ} → next at ≡ some m → Unbroken next n m k → Unbroken next n at (suc k)
+  more : {at m k : ℕ} → next at ≡ Some m → Unbroken next n m k → Unbroken next n at (suc k)
 
 -- k valid records lead from a place to another before the last byte, where there is none
 pub record Broken (next : ℕ → Option ℕ) (n at place k : ℕ) : Type 0 where
-  pub run : after next k at ≡ some place
-  pub stops : next place ≡ none
+  pub run : after next k at ≡ Some place
+  pub stops : next place ≡ None
   pub before_end : place < n
 
 -- where the records that follow one another from a place end, and how many they are
@@ -64,9 +65,13 @@ seam_from next n at =
 abbrev pub seam_at : Limits → List ℕ → List ℕ → ℕ → SeamTold
 seam_at limits kinds s at = seam_from (next_at limits kinds s) (length s) at
 
+-- the refusals' numbers
+abbrev pub seam_refusal : SeamError → ℕ
+seam_refusal TraceTooLong = 1
+seam_refusal PlaceOutside = 6
+
 -- each answer in the paper's numbers
-abbrev pub told_seam : Seam → SeamTold
-told_seam (UnbrokenAnswer records) = unbroken_with records
-told_seam (BrokenAnswer place records) = broken_at place records
-told_seam TraceTooLong = seam_refused 1
-told_seam PlaceOutside = seam_refused 6
+abbrev pub told_seam : Result Seam SeamError → SeamTold
+told_seam (Ok (UnbrokenAnswer records)) = unbroken_with records
+told_seam (Ok (BrokenAnswer place records)) = broken_at place records
+told_seam (Err e) = seam_refused (seam_refusal e)

@@ -4,7 +4,7 @@ use borrow.Author.Tests.{lt-ltb, le-ltb}
 use lib.IntN.{ℤ}
 use lib.Signed.{lt_z}
 use mathlib.Core.Bool.{Bool, true, false}
-use mathlib.Core.Option.{Option, none, some}
+use Rattle.std.specs.Prelude.{Option, None, Some}
 use mathlib.Core.Path.{◌≡◌, refl, sym, ap, subst, ◌∙◌}
 use native.Mathlib.Decide.{dec_lt}
 use native.Mathlib.Omega.{arith}
@@ -46,16 +46,16 @@ module _ (t : Trace) (steps : Steps t.next t.size) (fits : t.size ≤ trace_limi
       → step_at t target (Searching lo hi) ≡ more (Searching (next_lo target lo (meet t (middle lo hi))) (next_hi target (middle lo hi) hi (meet t (middle lo hi))))
   unfolding step_of
   step_halving lo hi within h =
-      let inside : middle lo hi ≤ n = omega arith in
+      let inside : middle lo hi ≤ trace_limit = omega arith in
       sym (step_fits t fits target (Searching lo hi))
       ∙ simp (lt-ltb 65536 (hi - lo) h, not_refused t fits (middle lo hi) inside)
 
-  step_past : (at : ℕ) → n ≤ at → step_at t target (Scanning at) ≡ done none
+  step_past : (at : ℕ) → n ≤ at → step_at t target (Scanning at) ≡ done None
   unfolding step_of
   step_past at past = sym (step_fits t fits target (Scanning at)) ∙ simp (le-ltb at n past)
 
   module _ (at : ℕ) (h : at < n) where
-    step_none : (meet t at).is_found ≡ false → step_at t target (Scanning at) ≡ done none
+    step_none : (meet t at).is_found ≡ false → step_at t target (Scanning at) ≡ done None
     unfolding step_of
     step_none is = sym (step_fits t fits target (Scanning at)) ∙ simp (lt-ltb at n h, not_refused t fits at (omega arith), is)
 
@@ -63,7 +63,7 @@ module _ (t : Trace) (steps : Steps t.next t.size) (fits : t.size ≤ trace_limi
     unfolding step_of
     step_passed is e = sym (step_fits t fits target (Scanning at)) ∙ simp (lt-ltb at n h, not_refused t fits at (omega arith), is, e)
 
-    step_found : (meet t at).is_found ≡ true → lt_z (meet t at).millis target ≡ false → step_at t target (Scanning at) ≡ done (some (meet t at).offset)
+    step_found : (meet t at).is_found ≡ true → lt_z (meet t at).millis target ≡ false → step_at t target (Scanning at) ≡ done (Some (meet t at).offset)
     unfolding step_of
     step_found is e = sym (step_fits t fits target (Scanning at)) ∙ simp (lt-ltb at n h, not_refused t fits at (omega arith), is, e)
 

@@ -2,7 +2,7 @@
 use Prim.Native.Nat.{ℕ, ◌+◌}
 use lib.IntN.{ℤ}
 use mathlib.Core.Bool.{true≢false, false≢true}
-use mathlib.Core.Option.{Option, none, some}
+use Rattle.std.specs.Prelude.{Option, None, Some}
 use mathlib.Core.Path.{◌≡◌, refl, sym, ap, subst, ◌∙◌}
 use native.Mathlib.Omega.{arith}
 use Rattle.seek.proofs.Only.{only_state}
@@ -12,14 +12,14 @@ use Rattle.seek.specs.declared.SeekState.{SeekState}
 
 -- an answer of one kind is none of another
 done_answer : (o : Option ℕ) → (done o).answer ≡ 3
-done_answer none = refl
-done_answer (some r) = refl
+done_answer None = refl
+done_answer (Some r) = refl
 
 done_only : (a b : Option ℕ) → done a ≡ done b → a ≡ b
-done_only none none e = refl
-done_only none (some r) e = absurd (false≢true (ap (λ (x : StepTold). x.is_found) e))
-done_only (some r) none e = absurd (true≢false (ap (λ (x : StepTold). x.is_found) e))
-done_only (some a) (some b) e = ap some (ap (λ (x : StepTold). x.offset) e)
+done_only None None e = refl
+done_only None (Some r) e = absurd (false≢true (ap (λ (x : StepTold). x.is_found) e))
+done_only (Some r) None e = absurd (true≢false (ap (λ (x : StepTold). x.is_found) e))
+done_only (Some a) (Some b) e = ap Some (ap (λ (x : StepTold). x.offset) e)
 
 module _ (t : Trace) (target : ℤ) where
   same_state : {a b : SeekState} {found : Option ℕ} {k : ℕ} → told_state a ≡ told_state b → Driven t target b found k → Driven t target a found k

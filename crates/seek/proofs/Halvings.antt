@@ -101,21 +101,23 @@ module _ (met : ℕ → MetTold) (n : ℕ) (ms : Meets met n) (target : ℤ) whe
       step k lo hi h
       ∙ ap counted (same_by k (lo' lo hi) (hi' lo hi) (omega (arith, halves lo hi h)) (dec_lt 65536 (hi' lo hi - lo' lo hi)))
 
+  inside_lo : (lo end : ℕ) (b : Bool) → lo ≤ n → (b ≡ true → end ≤ n) → cond b end lo ≤ n
+  inside_lo lo end true within e = e refl
+  inside_lo lo end false within e = within
+
   -- in the code's numbers: h halvings made, and what is left
   module _ (k first len lo hi h : ℕ) (so_far : narrow k first len ≡ plus h (narrow k lo hi)) where
     pub again :
-        (span : ℕ) → span ≡ hi - lo → span ≤ k → 65536 < span → (m : MetTold) → m ≡ met (lo + span / 2)
-        → (a b : ℕ) → a ≡ next_lo target lo m → b ≡ next_hi target (lo + span / 2) hi m
-        → (b - a ≤ span / 2) × ((hi ≤ n → b ≤ n) × (narrow k first len ≡ plus (h + 1) (narrow k a b)))
-    again span span_is enough wide m m_is a b a_is b-is =
-        let a_next : a ≡ lo' lo hi = rw (m_is, span_is) at a_is in
-        let b_next : b ≡ hi' lo hi = rw (m_is, span_is) at b-is in
-        rw (a_next, b_next, span_is) (
-          halves lo hi (omega arith),
-          (
-            λ within. stays_inside lo hi within (omega arith),
-            so_far ∙ ap (plus h) (one_halving k lo hi (omega arith) (omega arith)) ∙ plus_counted h (narrow k (lo' lo hi) (hi' lo hi)),
-          ),
+        hi - lo ≤ k → 65536 < hi - lo → lo ≤ n → hi ≤ n → (m : MetTold) → m ≡ met (middle lo hi) → (a b : ℕ) → a ≡ next_lo target lo m → b ≡ next_hi target (middle lo hi) hi m
+        → (a ≤ n) × (b ≤ n) × (b - a ≤ (hi - lo) / 2) × (narrow k first len ≡ plus (h + 1) (narrow k a b))
+    again enough wide lo_in hi_in m m_is a b a_is b_is =
+        let a_next : a ≡ lo' lo hi = rw m_is at a_is in
+        let b_next : b ≡ hi' lo hi = rw m_is at b_is in
+        rw (a_next, b_next) (
+          inside_lo lo (met (middle lo hi)).end (earlier target (met (middle lo hi))) lo_in (λ e. ms.inside (middle lo hi) (earlier_found target (met (middle lo hi)) e)),
+          stays_inside lo hi hi_in wide,
+          halves lo hi wide,
+          so_far ∙ ap (plus h) (one_halving k lo hi enough wide) ∙ plus_counted h (narrow k (lo' lo hi) (hi' lo hi)),
         )
 
     pub narrowed_enough : hi - lo ≤ 65536 → (lo ≡ (narrow k first len).lo) × (h ≡ (narrow k first len).halvings)

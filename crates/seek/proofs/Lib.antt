@@ -1,6 +1,5 @@
 pub mod Halvings
 pub mod Walks
-pub mod Targets
 pub mod Exits
 pub mod Only
 pub mod Agree

@@ -5,7 +5,7 @@ use lib.Dec.{ltb}
 use lib.IntN.{ℤ}
 use lib.Signed.{lt_z}
 use mathlib.Core.Bool.{Bool, true, false, cond, ◌&&◌}
-use mathlib.Core.Option.{Option, none, some}
+use Rattle.std.specs.Prelude.{Option, None, Some}
 use mathlib.Core.Path.{◌≡◌, refl, sym, ap, ◌∙◌}
 use native.Mathlib.Decide.{dec_lt}
 use native.Mathlib.Omega.{arith}
@@ -25,22 +25,22 @@ module _ (met : ℕ → MetTold) (n : ℕ) (ms : Meets met n) (target : ℤ) whe
   abbrev walk : ℕ → ℕ → Option ℕ
   walk k at = walked met n target k at
 
-  pub at_end : (k at : ℕ) → n ≤ at → walk k at ≡ none
+  pub at_end : (k at : ℕ) → n ≤ at → walk k at ≡ None
   unfolding walked
   at_end zero at past = refl
   at_end (suc k) at past = simp (le-ltb at n past)
 
-  pub none_met_at : (k at : ℕ) → (met at).is_found ≡ false → walk k at ≡ none
+  pub none_met_at : (k at : ℕ) → (met at).is_found ≡ false → walk k at ≡ None
   unfolding walked
   none_met_at zero at e = refl
   none_met_at (suc k) at e = none_by (ltb at n)
     where
-      none_by : (b : Bool) → cond (b && (met at).is_found) (cond (earlier target (met at)) (walked met n target k (met at).end) (some (met at).offset)) none ≡ none
+      none_by : (b : Bool) → cond (b && (met at).is_found) (cond (earlier target (met at)) (walked met n target k (met at).end) (Some (met at).offset)) None ≡ None
       none_by true = simp e
       none_by false = refl
 
   module _ (k at : ℕ) (inside : at < n) (is : (met at).is_found ≡ true) where
-    pub not_earlier : lt_z (met at).millis target ≡ false → walk (suc k) at ≡ some (met at).offset
+    pub not_earlier : lt_z (met at).millis target ≡ false → walk (suc k) at ≡ Some (met at).offset
     unfolding walked
     not_earlier e = simp (lt-ltb at n inside, is, e)
 
@@ -71,7 +71,7 @@ module _ (met : ℕ → MetTold) (n : ℕ) (ms : Meets met n) (target : ℤ) whe
   one_passed (suc k) at enough inside is e = step k at inside is e ∙ same k (met at).end (omega (arith, ends_after met n ms at is))
 
   -- and the record that is the answer
-  pub one_found : (k at : ℕ) → n - at ≤ k → at < n → (met at).is_found ≡ true → lt_z (met at).millis target ≡ false → walk k at ≡ some (met at).offset
+  pub one_found : (k at : ℕ) → n - at ≤ k → at < n → (met at).is_found ≡ true → lt_z (met at).millis target ≡ false → walk k at ≡ Some (met at).offset
   one_found zero at enough inside is e = absurd (omega arith)
   one_found (suc k) at enough inside is e = not_earlier k at inside is e
 
@@ -86,23 +86,23 @@ module _ (met : ℕ → MetTold) (n : ℕ) (ms : Meets met n) (target : ℤ) whe
     pub passes : lt_z t target ≡ true → walk k at ≡ walk k end
     passes q = one_passed k at enough inside is_there (compared true q) ∙ ap (λ (m : MetTold). walk k m.end) (sym e)
 
-    pub answers : lt_z t target ≡ false → walk k at ≡ some o
-    answers q = one_found k at enough inside is_there (compared false q) ∙ ap (λ (m : MetTold). some m.offset) (sym e)
+    pub answers : lt_z t target ≡ false → walk k at ≡ Some o
+    answers q = one_found k at enough inside is_there (compared false q) ∙ ap (λ (m : MetTold). Some m.offset) (sym e)
 
   -- what is answered was met, and is not earlier than the target
   found_by :
       (k at r : ℕ) → Dec (at < n) → (b e : Bool) → (met at).is_found ≡ b → lt_z (met at).millis target ≡ e
-      → ((i : ℕ) → walk k i ≡ some r → Answer met target r)
-      → walk (suc k) at ≡ some r → Answer met target r
-  found_by k at r (no h) b e is q ih w = absurd (let z : ◌≡◌ {A = Option ℕ} none (some r) = sym (at_end (suc k) at (omega arith)) ∙ w in let y : ◌≡◌ {A = ℕ} 0 1 = cc in omega arith)
-  found_by k at r (yes h) false e is q ih w = absurd (let z : ◌≡◌ {A = Option ℕ} none (some r) = sym (none_met_at (suc k) at is) ∙ w in let y : ◌≡◌ {A = ℕ} 0 1 = cc in omega arith)
+      → ((i : ℕ) → walk k i ≡ Some r → Answer met target r)
+      → walk (suc k) at ≡ Some r → Answer met target r
+  found_by k at r (no h) b e is q ih w = absurd (let z : ◌≡◌ {A = Option ℕ} None (Some r) = sym (at_end (suc k) at (omega arith)) ∙ w in let y : ◌≡◌ {A = ℕ} 0 1 = cc in omega arith)
+  found_by k at r (yes h) false e is q ih w = absurd (let z : ◌≡◌ {A = Option ℕ} None (Some r) = sym (none_met_at (suc k) at is) ∙ w in let y : ◌≡◌ {A = ℕ} 0 1 = cc in omega arith)
   found_by k at r (yes h) true true is q ih w = ih (met at).end (sym (step k at h is q) ∙ w)
   found_by k at r (yes h) true false is q ih w =
-      let z : some (met at).offset ≡ some r = sym (not_earlier k at h is q) ∙ w in
+      let z : Some (met at).offset ≡ Some r = sym (not_earlier k at h is q) ∙ w in
       let same_place : (met at).offset ≡ r = cc in
       record { from = at; is_met = is; place = same_place; late = q }
 
-  pub found_met : (k at r : ℕ) → walk k at ≡ some r → Answer met target r
+  pub found_met : (k at r : ℕ) → walk k at ≡ Some r → Answer met target r
   unfolding walked
   found_met zero at r w = absurd (let y : ◌≡◌ {A = ℕ} 0 1 = cc in omega arith)
   found_met (suc k) at r w =

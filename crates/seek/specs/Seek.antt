@@ -1,13 +1,11 @@
 -- The whole seek: halvings down to a short span, then a walk.
-use Rattle.std.specs.Prelude.{ℕ, zero, suc, ◌+◌, ◌-◌, ◌/◌, ltb, ℤ, Bool, true, false, cond, ◌&&◌, ◌≡◌}
+use Rattle.std.specs.Prelude.{ℕ, zero, suc, ◌+◌, ◌-◌, ◌/◌, ltb, ℤ, Bool, true, false, cond, ◌&&◌, ◌≡◌, Option, None, Some, Result, Ok, Err}
 use Rattle.std.specs.Int.Signed.{lt_z}
-use Rattle.std.proofs.Math.Option.{Option, none, some}
 use Rattle.layout.specs.Layout.{trace_limit}
+use Rattle.layout.specs.declared.TraceTooLong.{TraceTooLong}
 use Rattle.span.specs.Met.{Trace, MetTold, meet, first_met}
-use Rattle.seek.specs.declared.Found.{Found}
 use Rattle.seek.specs.declared.Narrowed.{Narrowed}
 use Rattle.seek.specs.declared.SeekTime.{SeekTime}
-use Rattle.seek.specs.declared.SeekTime.TheVariants as Seek
 
 -- 01: "While hi - lo exceeds 65,536"; of crossed bounds the difference is 0, and so they are walked from lo
 abbrev pub wide : ℕ → ℕ → Bool
@@ -56,11 +54,11 @@ Keeps r b = (r.lo ≡ b.lo) × (r.halvings ≡ b.halvings)
 -- than the target (the answer), or none is found or the trace ends (none)". The steps are counted: as many as there are bytes
 -- from the place on are enough, and more change nothing (`more_steps` of proofs/Walks.antt)
 unfoldable pub walked : (ℕ → MetTold) → ℕ → ℤ → ℕ → ℕ → Option ℕ
-walked met n target zero at = none
+walked met n target zero at = None
 walked met n target (suc k) at =
     cond (ltb at n && (met at).is_found)
-    (cond (earlier target (met at)) (walked met n target k (met at).end) (some (met at).offset))
-    none
+    (cond (earlier target (met at)) (walked met n target k (met at).end) (Some (met at).offset))
+    None
 
 -- what a seek answers: the refusal's number or 0, whether a record was found, its place, and the number of halvings
 pub record SeekTold : Type 0 where
@@ -70,8 +68,8 @@ pub record SeekTold : Type 0 where
   pub halvings : ℕ
 
 abbrev pub seek_told : ℕ → Option ℕ → SeekTold
-seek_told halvings none = record { refusal = 0; is_found = false; offset = 0; halvings = halvings }
-seek_told halvings (some offset) = record { refusal = 0; is_found = true; offset = offset; halvings = halvings }
+seek_told halvings None = record { refusal = 0; is_found = false; offset = 0; halvings = halvings }
+seek_told halvings (Some offset) = record { refusal = 0; is_found = true; offset = offset; halvings = halvings }
 
 abbrev pub no_seek : SeekTold
 no_seek = record { refusal = 1; is_found = false; offset = 0; halvings = 0 }
@@ -86,14 +84,9 @@ seek_of t target =
     cond (ltb trace_limit t.size) no_seek
     (cond (first_met t).is_found
     (seek_told (bracket t target).halvings (walked (meet t) t.size target t.size (bracket t target).lo))
-    (seek_told 0 none))
+    (seek_told 0 None))
 
 -- each answer in the paper's numbers
-abbrev pub told_found : Found → Option ℕ
-told_found (Found.At offset) = some offset
-told_found Found.Nothing = none
-
-abbrev pub told_seek : SeekTime → SeekTold
-told_seek (Seek.Found offset halvings) = seek_told halvings (some offset)
-told_seek (Seek.Nothing halvings) = seek_told halvings none
-told_seek Seek.TraceTooLong = no_seek
+abbrev pub told_seek : Result SeekTime TraceTooLong → SeekTold
+told_seek (Ok seek) = seek_told seek.halvings seek.offset
+told_seek (Err refusal) = no_seek

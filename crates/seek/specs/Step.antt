@@ -1,13 +1,13 @@
 -- The stepped seek: where it starts, one step of it, and what it means that the steps end.
-use Rattle.std.specs.Prelude.{ℕ, ◌+◌, ltb, eqb, ℤ, Bool, true, false, cond, ◌≡◌}
-use Rattle.std.proofs.Math.Option.{Option, none, some}
+use Rattle.std.specs.Prelude.{ℕ, ◌+◌, ltb, eqb, ℤ, Bool, true, false, cond, ◌≡◌, Option, None, Some, Result, Ok, Err}
 use Rattle.layout.specs.Layout.{header_size, trace_limit}
+use Rattle.layout.specs.declared.TraceTooLong.{TraceTooLong}
+use Rattle.resync.specs.Search.{search_refusal}
+use Rattle.resync.specs.declared.SearchError.{SearchError}
 use Rattle.span.specs.Met.{Trace, MetTold, meet, first_met}
-use Rattle.seek.specs.Seek.{wide, middle, earlier, next_lo, next_hi, told_found}
+use Rattle.seek.specs.Seek.{wide, middle, earlier, next_lo, next_hi}
 use Rattle.seek.specs.declared.SeekState.{SeekState}
 use Rattle.seek.specs.declared.SeekState.TheVariants.{Searching, Scanning}
-use Rattle.seek.specs.declared.SeekStart.{SeekStart}
-use Rattle.seek.specs.declared.SeekStart.TheVariants as Start
 use Rattle.seek.specs.declared.SeekStep.{SeekStep}
 use Rattle.seek.specs.declared.SeekStep.TheVariants as Step
 
@@ -40,9 +40,9 @@ start_at t =
     (start_told 0 (told_state (Searching (cond (first_met t).is_found (first_met t).offset header_size) t.size)))
 
 -- each answer in the paper's numbers
-abbrev pub told_start : SeekStart → StartTold
-told_start (Start.From state) = start_told 0 (told_state state)
-told_start Start.TraceTooLong = start_told 1 no_state
+abbrev pub told_start : Result SeekState TraceTooLong → StartTold
+told_start (Ok state) = start_told 0 (told_state state)
+told_start (Err refusal) = start_told 1 no_state
 
 -- 01: "A step answers more, scan or done, and the first two carry the state to pass back": the refusal's number or 0, the answer
 -- (1 more, 2 scan, 3 done), the state, and of done whether a record was found and its place
@@ -63,8 +63,8 @@ abbrev pub scan : SeekState → StepTold
 scan state = record { refusal = 0; answer = 2; state = told_state state; is_found = false; offset = 0 }
 
 abbrev pub done : Option ℕ → StepTold
-done none = record { refusal = 0; answer = 3; state = no_state; is_found = false; offset = 0 }
-done (some offset) = record { refusal = 0; answer = 3; state = no_state; is_found = true; offset = offset }
+done None = record { refusal = 0; answer = 3; state = no_state; is_found = false; offset = 0 }
+done (Some offset) = record { refusal = 0; answer = 3; state = no_state; is_found = true; offset = offset }
 
 -- refusal 5, "judged only where a search is made": a step goes on from what its search met
 abbrev pub unless : MetTold → StepTold → StepTold
@@ -80,21 +80,20 @@ step_of met n target (Scanning at) =
     cond (ltb at n)
     (unless (met at)
     (cond (met at).is_found
-    (cond (earlier target (met at)) (more (Scanning (met at).end)) (done (some (met at).offset)))
-    (done none)))
-    (done none)
+    (cond (earlier target (met at)) (more (Scanning (met at).end)) (done (Some (met at).offset)))
+    (done None)))
+    (done None)
 
 -- refusal 1: "the trace is over 1,073,741,824 bytes (all calls on a trace)"
 unfoldable pub step_at : Trace → ℤ → SeekState → StepTold
 step_at t target state = cond (ltb trace_limit t.size) (refused 1) (step_of (meet t) t.size target state)
 
 -- each answer in the paper's numbers
-abbrev pub told_step : SeekStep → StepTold
-told_step (Step.More state) = more state
-told_step (Step.Scan state) = scan state
-told_step (Step.Done found) = done (told_found found)
-told_step Step.TraceTooLong = refused 1
-told_step Step.WindowTooLong = refused 5
+abbrev pub told_step : Result SeekStep SearchError → StepTold
+told_step (Ok (Step.More state)) = more state
+told_step (Ok (Step.Scan state)) = scan state
+told_step (Ok (Step.Done found)) = done found
+told_step (Err refusal) = refused (search_refusal refusal)
 
 -- a step that answers more is a halving where it was searching
 abbrev pub halving_of : SeekState → ℕ

@@ -1,61 +1,57 @@
--- Texts that lines are made of: spaces, and numbers at the right of a width. Assumes nothing.
-use Prim.Native.Nat.{ℕ, zero, suc, ◌+◌, ◌-◌, ◌≤◌}
+-- Texts that lines are made of: spaces, numbers at the right of a width, and rates. Assumes nothing.
+use Prim.Native.Nat.{ℕ, zero, suc, ◌+◌, ◌-◌, ◌<◌}
 use lib.IntN.{ℤ, pos, negsuc, nat_abs}
-use lib.ListN.{length, take, replicate}
+use lib.ListN.{length, take, drop, replicate}
 use lib.Signed.{lt_z}
-use mathlib.Core.Bool.{true, false, true≢false}
-use mathlib.Core.List.{List, ◌∷◌, ◌++◌}
+use mathlib.Core.List.{List, ◌++◌}
 use mathlib.Core.Path.{◌≡◌, refl, ap, ◌∙◌}
-use mir.Syntax.{w64}
-use mir.Val.{to_z, of_z, SFits}
-use mir.ValLaws.{to_z-of_z}
-use native.Mathlib.Nat.{le_of_suc-le-suc, not-suc-le-zero}
+use mir.Val.{bool_byte}
 use native.Mathlib.Omega.{arith}
+use borrow.Author.Tests.{le-ltb}
 use Rattle.io.specs.Counts.{IsPrefixLen}
 use Rattle.io.specs.Digits.{last_digits, IsDigitCount}
+use Rattle.speed.specs.Chart.{row_for}
+use Rattle.speed.specs.Speed.{speed_for}
 use Rattle.text.proofs.Decimals.{decimal_is}
-use Rattle.text.proofs.Negative.{clash}
 use Rattle.text.proofs.Puts.{joined, renamed}
-use Rattle.text.specs.Put.{Put}
+use Rattle.text.specs.Put.{Puts}
+use Rattle.text.specs.declared.Out.{Out}
 use Rattle.text.specs.Texts.{space, decimal_text, signed_text}
-use Rattle.show.specs.Person.{at_right, signs}
-
--- some of many spaces
-pub some_spaces : (n m : ℕ) → n ≤ m → take n (replicate m space) ≡ replicate n space
-some_spaces zero m h = refl
-some_spaces (suc n) zero h = absurd (not-suc-le-zero h)
-some_spaces (suc n) (suc m) h = ap (λ (l : List ℕ). space ∷ l) (some_spaces n m (le_of_suc-le-suc h))
+use Rattle.show.specs.Person.{at_right, signs, rate_text, rates_text}
 
 -- the digits that `io::decimal` gives are as many as the text has
 pub digits_are : (n k : ℕ) (out : List ℕ) → IsPrefixLen k out → IsDigitCount 10 1 n k → take k out ≡ last_digits 10 k n → k ≡ length (decimal_text n)
 digits_are n k out c f e = c.1 ∙ ap length (e ∙ decimal_is n k f)
 
 -- spaces and then a text, at the right of a width
-pub at_right_of : {text before middle after : List ℕ} {at r₁ r₂ : ℕ} (width sign k : ℕ) → sign + k ≡ length text
-    → Put (replicate (width - sign - k) space) before at middle r₁ → Put text middle r₁ after r₂ → Put (at_right width text) before at after r₂
+pub at_right_of : {text : List ℕ} {o₀ o₁ o₂ : Out} (width n : ℕ) → n ≡ width - length text
+    → Puts (replicate n space) o₀ o₁ → Puts text o₁ o₂ → Puts (at_right width text) o₀ o₂
 unfolding at_right
-at_right_of {text} width sign k e p t =
-    let q : width - sign - k ≡ width - length text = omega (arith, e) in
-    renamed (ap (λ (n : ℕ). replicate n space ++ text) q) (joined p t)
+at_right_of {text} width n e p t = renamed (ap (λ (k : ℕ). replicate k space ++ text) e) (joined p t)
+
+-- the same number by another name
+pub same_right : {m n : ℕ} {o₀ o₁ : Out} (width : ℕ) → m ≡ n → Puts (at_right width (decimal_text m)) o₀ o₁ → Puts (at_right width (decimal_text n)) o₀ o₁
+same_right width e p = renamed (ap (λ (k : ℕ). at_right width (decimal_text k)) e) p
+
+pub same_signed : {y z : ℤ} {o₀ o₁ : Out} (width : ℕ) → y ≡ z → Puts (at_right width (signed_text y)) o₀ o₁ → Puts (at_right width (signed_text z)) o₀ o₁
+same_signed width e p = renamed (ap (λ (x : ℤ). at_right width (signed_text x)) e) p
 
 -- a sign and the digits are the bytes of the text
-pub signed_long : (y : ℤ) (s n k : ℕ) → s ≡ signs y → n ≡ nat_abs y → k ≡ length (decimal_text n) → s + k ≡ length (signed_text y)
+pub signed_long : (z : ℤ) → signs z + length (decimal_text (nat_abs z)) ≡ length (signed_text z)
 unfolding signed_text
-signed_long (pos m) s n k a b e = omega (arith, a, e ∙ ap (λ (x : ℕ). length (decimal_text x)) b)
-signed_long (negsuc m) s n k a b e = omega (arith, a, e ∙ ap (λ (x : ℕ). length (decimal_text x)) b)
+signed_long (pos m) = omega arith
+signed_long (negsuc m) = omega arith
 
-negative : (z : ℤ) → lt_z z (pos 0) ≡ true → 1 ≡ signs z
-negative (pos n) h = clash n h
-negative (negsuc n) h = refl
+-- a sign has a byte, and none has none
+pub sign_is : (z : ℤ) → bool_byte (lt_z z (pos 0)) ≡ signs z
+sign_is (pos n) = simp (le-ltb n 0 (omega arith))
+sign_is (negsuc n) = refl
 
-not_negative : (z : ℤ) → lt_z z (pos 0) ≡ false → 0 ≡ signs z
-not_negative (pos n) h = refl
-not_negative (negsuc n) h = absurd (true≢false h)
-
--- the sign of what stands in a local, kept as its bits, as the code tests it
-module _ (z : ℤ) (f : SFits w64 z) where
-  pub one_sign : lt_z (to_z w64 (of_z w64 z)) (pos 0) ≡ true → 1 ≡ signs z
-  one_sign taken = negative z (rw (to_z-of_z w64 z f) at taken)
-
-  pub no_sign : lt_z (to_z w64 (of_z w64 z)) (pos 0) ≡ false → 0 ≡ signs z
-  no_sign left = not_negative z (rw (to_z-of_z w64 z f) at left)
+-- the rates from a channel on are that of the channel and those after it
+pub next_rate : (region i : ℕ) → i < 4 → rates_text (drop i (row_for region)) ≡ rate_text (speed_for i region) ++ rates_text (drop (i + 1) (row_for region))
+unfolding rates_text
+next_rate region zero h = refl
+next_rate region (suc zero) h = refl
+next_rate region (suc (suc zero)) h = refl
+next_rate region (suc (suc (suc zero))) h = refl
+next_rate region (suc (suc (suc (suc n)))) h = absurd (omega arith)

@@ -1,7 +1,8 @@
 -- Lines for a person: aligned, and by name.
-use Rattle.std.specs.Prelude.{ℕ, ◌-◌, eqb, ℤ, pos, negsuc, length, replicate, Bool, cond, List, [], ◌∷◌, ◌++◌}
+use Rattle.std.specs.Prelude.{ℕ, ◌-◌, eqb, ℤ, pos, negsuc, length, replicate, Bool, cond, List, [], ◌∷◌, ◌++◌, Result, Ok, Err}
 use Rattle.seam.specs.declared.Seam.{Seam}
-use Rattle.seam.specs.declared.Seam.TheVariants.{Unbroken, Broken, TraceTooLong, PlaceOutside}
+use Rattle.seam.specs.declared.Seam.TheVariants.{Unbroken, Broken}
+use Rattle.seam.specs.declared.SeamError.{SeamError}
 use Rattle.reader.specs.declared.ZlfRecord.{ZlfRecord}
 use Rattle.rows.specs.declared.Row.{Row}
 use Rattle.speed.specs.Chart.{row_for}
@@ -47,11 +48,10 @@ broken_text place stop records =
     ((0x42 ∷ 0x52 ∷ 0x4F ∷ 0x4B ∷ 0x45 ∷ 0x4E ∷ 0x20 ∷ 0x61 ∷ 0x74 ∷ 0x20 ∷ []) ++ decimal_text stop) ++ ((0x3A ∷ 0x20 ∷ 0x6E ∷ 0x6F ∷ 0x20 ∷ 0x76 ∷ 0x61 ∷ 0x6C ∷ 0x69 ∷ 0x64 ∷ 0x20 ∷ 0x72 ∷ 0x65 ∷ 0x63 ∷ 0x6F ∷ 0x72 ∷ 0x64 ∷ 0x20 ∷ 0x74 ∷ 0x68 ∷ 0x65 ∷ 0x72 ∷ 0x65 ∷ 0x3B ∷ 0x20 ∷ 0x66 ∷ 0x72 ∷ 0x6F ∷ 0x6D ∷ 0x20 ∷ []) ++ decimal_text place) ++ ((0x20 ∷ 0x75 ∷ 0x70 ∷ 0x20 ∷ 0x74 ∷ 0x6F ∷ 0x20 ∷ 0x69 ∷ 0x74 ∷ 0x2C ∷ 0x20 ∷ 0x72 ∷ 0x65 ∷ 0x63 ∷ 0x6F ∷ 0x72 ∷ 0x64 ∷ 0x73 ∷ 0x3A ∷ 0x20 ∷ []) ++ decimal_text records) ++ (0x0A ∷ [])
 
 -- what the seam check said from a place of a trace of so many bytes, and `not checked` where it was refused
-unfoldable pub mark_text : Seam → ℕ → ℕ → List ℕ
-mark_text (Unbroken records) place size = unbroken_text place size records
-mark_text (Broken stop records) place size = broken_text place stop records
-mark_text TraceTooLong place size = 0x6E ∷ 0x6F ∷ 0x74 ∷ 0x20 ∷ 0x63 ∷ 0x68 ∷ 0x65 ∷ 0x63 ∷ 0x6B ∷ 0x65 ∷ 0x64 ∷ 0x0A ∷ []
-mark_text PlaceOutside place size = 0x6E ∷ 0x6F ∷ 0x74 ∷ 0x20 ∷ 0x63 ∷ 0x68 ∷ 0x65 ∷ 0x63 ∷ 0x6B ∷ 0x65 ∷ 0x64 ∷ 0x0A ∷ []
+unfoldable pub mark_text : Result Seam SeamError → ℕ → ℕ → List ℕ
+mark_text (Ok (Unbroken records)) place size = unbroken_text place size records
+mark_text (Ok (Broken stop records)) place size = broken_text place stop records
+mark_text (Err e) place size = 0x6E ∷ 0x6F ∷ 0x74 ∷ 0x20 ∷ 0x63 ∷ 0x68 ∷ 0x65 ∷ 0x63 ∷ 0x6B ∷ 0x65 ∷ 0x64 ∷ 0x0A ∷ []
 
 -- ` out` for an outgoing record, and ` in `
 unfoldable pub way_text : Bool → List ℕ

@@ -1,16 +1,17 @@
 // Lines for a person: aligned, and by name.
 #![tactic(auto)]
 
-ghost use Rattle.std.specs.Prelude.{◌++◌, ◌≡◌, ◌-◌, ◌≤◌, length, replicate};
+ghost use Rattle.std.specs.Prelude.{◌++◌, ◌≡◌, length, replicate};
 ghost use Rattle.speed.specs.Chart.{row_for};
-ghost use Rattle.text.specs.Put.{Put};
+ghost use Rattle.text.specs.Put.{Puts};
 ghost use Rattle.text.specs.Texts.{space, decimal_text, signed_text};
-ghost use Rattle.show.specs.Person.{at_right, signs, direction_text, heard_text, numbers_text, frame_text, unbroken_text, broken_text, mark_text, way_text, when_text, held_text, stored_text, record_text, count_text, rate_text, rates_text, chart_text};
+ghost use Rattle.show.specs.Person.{at_right, direction_text, heard_text, numbers_text, frame_text, unbroken_text, broken_text, mark_text, way_text, when_text, held_text, stored_text, record_text, count_text, rate_text, rates_text, chart_text};
 
 use layout::PTI;
 use reader::ZlfRecord;
 use rows::Row;
-use seam::Seam;
+use seam::{Seam, SeamError};
+use text::Out;
 
 // How many digits a number has.
 fn digits(n: u64) -> usize
@@ -20,219 +21,202 @@ fn digits(n: u64) -> usize
     io::decimal(n, &mut room)
 }
 
-// The bytes of a number's sign.
-fn sign_of(z: i64) -> usize
-    ensures { result ≡ signs z }
+// Puts so many spaces.
+fn put_spaces(out: &mut Out, n: usize)
+    ensures { Puts (replicate n space) out.old out.new }
 {
-    if z < 0 { 1 } else { 0 }
-}
-
-fn less(a: usize, b: usize) -> usize
-    ensures { result ≡ a - b }
-{
-    if a < b { 0 } else { a - b }
-}
-
-// Puts the spaces before a sign and so many digits, up to a width of at most 20.
-fn put_spaces(out: &mut [u8], at: usize, width: usize, sign: usize, used: usize) -> usize
-    requires { width ≤ 20 }
-    ensures { Put (replicate (width - sign - used) space) out.old at out.new result }
-{
-    let spaces = *b"                    ";
-    let n = less(less(width, sign), used);
-    text::put_text(out, at, &spaces[..n])
+    for _ in 0..n {
+        out.put_byte(b' ');
+    }
 }
 
 // Puts a number, with spaces before it up to a width.
-fn put_right(out: &mut [u8], at: usize, width: usize, n: u64) -> usize
-    requires { width ≤ 20 }
-    ensures { Put (at_right width (decimal_text n)) out.old at out.new result }
+fn put_right(out: &mut Out, width: usize, n: u64)
+    ensures { Puts (at_right width (decimal_text n)) out.old out.new }
 {
-    let next = put_spaces(out, at, width, 0, digits(n));
-    text::put_decimal(out, next, n)
+    put_spaces(out, width.saturating_sub(digits(n)));
+    out.put_decimal(n);
 }
 
 // Puts a number with its sign, and spaces before it up to a width.
-fn put_right_signed(out: &mut [u8], at: usize, width: usize, z: i64) -> usize
-    requires { width ≤ 20 }
-    ensures { Put (at_right width (signed_text z)) out.old at out.new result }
+fn put_right_signed(out: &mut Out, width: usize, z: i64)
+    ensures { Puts (at_right width (signed_text z)) out.old out.new }
 {
-    let next = put_spaces(out, at, width, sign_of(z), digits(text::magnitude(z)));
-    text::put_signed(out, next, z)
+    let sign = usize::from(z < 0);
+    put_spaces(
+        out,
+        width
+            .saturating_sub(sign)
+            .saturating_sub(digits(text::magnitude(z))),
+    );
+    out.put_signed(z);
 }
 
 // A frame's direction.
-fn direction_name(direction: u8) -> [u8; 5]
-    ensures { result ≡ direction_text direction }
+#[tactic(auto, unfolding(crate::specs::Person::direction_text))]
+fn direction_name(direction: u8) -> &'static [u8; 5]
+    ensures { result.now ≡ direction_text direction }
 {
-    if direction == 0 {
-        return *b" rx  ";
-    }
-    *b" tx  "
+    if direction == 0 { b" rx  " } else { b" tx  " }
 }
 
 // When a frame came, how long after the one before, which way, in which region and at which speed.
-fn put_heard(out: &mut [u8], at: usize, kind: u8, row: Row) -> usize
-    ensures { Put (heard_text kind row) out.old at out.new result }
+fn put_heard(out: &mut Out, kind: u8, row: Row)
+    ensures { Puts (heard_text kind row) out.old out.new }
 {
-    let time = names::put_time(out, at, row.millis);
-    let gap = put_right_signed(out, time, 15, row.gap);
-    let name = direction_name(row.direction);
-    let side = text::put_text(out, gap, &name);
-    let region = names::put_region(out, side, kind, row.region);
-    names::put_speed(out, region, row.speed)
+    names::put_time(out, row.millis);
+    put_right_signed(out, 15, row.gap);
+    out.put_text(direction_name(row.direction));
+    names::put_region(out, kind, row.region);
+    names::put_speed(out, row.speed);
 }
 
 // A frame's numbers: channel, RSSI, beams, record and position, and a space.
-fn put_numbers(out: &mut [u8], at: usize, row: Row) -> usize
-    ensures { Put (numbers_text row) out.old at out.new result }
+fn put_numbers(out: &mut Out, row: Row)
+    ensures { Puts (numbers_text row) out.old out.new }
 {
-    let channel = put_right(out, at, 4, row.channel as u64);
-    let rssi = put_right_signed(out, channel, 6, row.rssi as i64);
-    let beams = put_right(out, rssi, 7, row.beam_count as u64);
-    let record = put_right(out, beams, 12, row.record as u64);
-    let position = put_right(out, record, 5, row.position as u64);
-    text::put_byte(out, position, b' ')
+    put_right(out, 4, u64::from(row.channel));
+    put_right_signed(out, 6, i64::from(row.rssi));
+    put_right(out, 7, u64::from(row.beam_count));
+    put_right(out, 12, row.record as u64);
+    put_right(out, 5, row.position as u64);
+    out.put_byte(b' ');
 }
 
 // The line for a frame of a record of a kind, and its MPDU.
-pub fn frame_line(out: &mut [u8], at: usize, kind: u8, row: Row, mpdu: &[u8]) -> usize
-    ensures { Put (frame_text kind row mpdu.now) out.old at out.new result }
+pub fn frame_line(out: &mut Out, kind: u8, row: Row, mpdu: &[u8])
+    ensures { Puts (frame_text kind row mpdu.now) out.old out.new }
 {
-    let heard = put_heard(out, at, kind, row);
-    let numbers = put_numbers(out, heard, row);
-    names::put_mpdu(out, numbers, mpdu)
+    put_heard(out, kind, row);
+    put_numbers(out, row);
+    names::put_mpdu(out, mpdu);
 }
 
 // A text, and the number after it.
-fn put_named(out: &mut [u8], at: usize, name: &[u8], n: usize) -> usize
-    ensures { Put (name.now ++ decimal_text n) out.old at out.new result }
+fn put_named(out: &mut Out, name: &[u8], n: usize)
+    ensures { Puts (name.now ++ decimal_text n) out.old out.new }
 {
-    let next = text::put_text(out, at, name);
-    text::put_decimal(out, next, n as u64)
+    out.put_text(name);
+    out.put_decimal(n as u64);
 }
 
 // The line for a trace that is unbroken from a place to its end.
-fn unbroken_line(out: &mut [u8], at: usize, place: usize, size: usize, records: usize) -> usize
-    ensures { Put (unbroken_text place size records) out.old at out.new result }
+fn unbroken_line(out: &mut Out, place: usize, size: usize, records: usize)
+    ensures { Puts (unbroken_text place size records) out.old out.new }
 {
-    let from = put_named(out, at, b"unbroken from ", place);
-    let to = put_named(out, from, b" to the end at ", size);
-    let count = put_named(out, to, b", records: ", records);
-    text::put_byte(out, count, b'\n')
+    put_named(out, b"unbroken from ", place);
+    put_named(out, b" to the end at ", size);
+    put_named(out, b", records: ", records);
+    out.put_byte(b'\n');
 }
 
 // The line for a trace that is broken after so many records from a place.
-fn broken_line(out: &mut [u8], at: usize, place: usize, stop: usize, records: usize) -> usize
-    ensures { Put (broken_text place stop records) out.old at out.new result }
+fn broken_line(out: &mut Out, place: usize, stop: usize, records: usize)
+    ensures { Puts (broken_text place stop records) out.old out.new }
 {
-    let end = put_named(out, at, b"BROKEN at ", stop);
-    let from = put_named(out, end, b": no valid record there; from ", place);
-    let to = put_named(out, from, b" up to it, records: ", records);
-    text::put_byte(out, to, b'\n')
+    put_named(out, b"BROKEN at ", stop);
+    put_named(out, b": no valid record there; from ", place);
+    put_named(out, b" up to it, records: ", records);
+    out.put_byte(b'\n');
 }
 
 // The line for what the seam check said from a place of a trace of so many bytes.
-pub fn mark_line(out: &mut [u8], at: usize, mark: Seam, place: usize, size: usize) -> usize
-    ensures { Put (mark_text mark place size) out.old at out.new result }
+pub fn mark_line(out: &mut Out, mark: Result<Seam, SeamError>, place: usize, size: usize)
+    ensures { Puts (mark_text mark place size) out.old out.new }
 {
     match mark {
-        Seam::Unbroken { records } => unbroken_line(out, at, place, size, records),
-        Seam::Broken {
-            place: stop,
-            records,
-        } => broken_line(out, at, place, stop, records),
-        Seam::TraceTooLong => text::put_text(out, at, b"not checked\n"),
-        Seam::PlaceOutside => text::put_text(out, at, b"not checked\n"),
+        Ok(Seam::Unbroken { records }) => unbroken_line(out, place, size, records),
+        Ok(
+            Seam::Broken {
+                place: stop,
+                records,
+            },
+        ) => broken_line(out, place, stop, records),
+        Err(_) => out.put_text(b"not checked\n"),
     }
 }
 
 // The line for a record as the sequential reader gives it.
-pub fn record_line(out: &mut [u8], at: usize, z: ZlfRecord) -> usize
-    ensures { Put (record_text z) out.old at out.new result }
+pub fn record_line(out: &mut Out, z: ZlfRecord)
+    ensures { Puts (record_text z) out.old out.new }
 {
-    let when = put_when(out, at, z.offset, z.raw_ticks);
-    let held = put_held(out, when, z.is_outcome, z.session_id);
-    let stored = put_stored(out, held, z.end, z.kind);
-    let payload = put_right(out, stored, 11, z.payload_offset as u64);
-    let length = put_right(out, payload, 11, z.payload_len as u64);
-    text::put_byte(out, length, b'\n')
+    put_when(out, z.offset, z.raw_ticks);
+    put_held(out, z.is_outcome, z.session_id);
+    put_stored(out, z.end, z.kind);
+    put_right(out, 11, z.payload_offset as u64);
+    put_right(out, 11, z.payload_len as u64);
+    out.put_byte(b'\n');
 }
 
 // A record's place and its time.
-fn put_when(out: &mut [u8], at: usize, place: usize, ticks: u64) -> usize
-    ensures { Put (when_text place ticks) out.old at out.new result }
+fn put_when(out: &mut Out, place: usize, ticks: u64)
+    ensures { Puts (when_text place ticks) out.old out.new }
 {
-    let number = put_right(out, at, 10, place as u64);
-    let gap = text::put_byte(out, number, b' ');
-    names::put_time(out, gap, ticks::unix_millis(ticks))
+    put_right(out, 10, place as u64);
+    out.put_byte(b' ');
+    names::put_time(out, ticks::unix_millis(ticks));
 }
 
-fn way_name(outgoing: bool) -> [u8; 4]
-    ensures { result ≡ way_text outgoing }
+#[tactic(auto, unfolding(crate::specs::Person::way_text))]
+fn way_name(outgoing: bool) -> &'static [u8; 4]
+    ensures { result.now ≡ way_text outgoing }
 {
-    if outgoing {
-        return *b" out";
-    }
-    *b" in "
+    if outgoing { b" out" } else { b" in " }
 }
 
 // Which way a record went, and its session.
-fn put_held(out: &mut [u8], at: usize, outgoing: bool, session: u8) -> usize
-    ensures { Put (held_text outgoing session) out.old at out.new result }
+fn put_held(out: &mut Out, outgoing: bool, session: u8)
+    ensures { Puts (held_text outgoing session) out.old out.new }
 {
-    let name = way_name(outgoing);
-    let side = text::put_text(out, at, &name);
-    let number = put_right(out, side, 4, session as u64);
-    text::put_byte(out, number, b' ')
+    out.put_text(way_name(outgoing));
+    put_right(out, 4, u64::from(session));
+    out.put_byte(b' ');
 }
 
 // An end byte, and the kind that it stands for.
-fn put_stored(out: &mut [u8], at: usize, end: u8, kind: u8) -> usize
-    ensures { Put (stored_text end kind) out.old at out.new result }
+fn put_stored(out: &mut Out, end: u8, kind: u8)
+    ensures { Puts (stored_text end kind) out.old out.new }
 {
-    let bytes = [end];
-    let byte = text::put_hex(out, at, &bytes);
-    let space = text::put_byte(out, byte, b' ');
-    names::put_kind(out, space, kind)
+    out.put_hex(&[end]);
+    out.put_byte(b' ');
+    names::put_kind(out, kind);
 }
 
 // The line for the records of a kind and their frames.
-pub fn count_line(out: &mut [u8], at: usize, kind: u8, records: u64, frames: u64) -> usize
-    ensures { Put (count_text kind records frames) out.old at out.new result }
+pub fn count_line(out: &mut Out, kind: u8, records: u64, frames: u64)
+    ensures { Puts (count_text kind records frames) out.old out.new }
 {
-    let spaces = text::put_text(out, at, b"  ");
-    let name = names::put_kind(out, spaces, kind);
-    let first = put_right(out, name, 12, records);
-    let second = put_right(out, first, 12, frames);
-    text::put_byte(out, second, b'\n')
+    out.put_text(b"  ");
+    names::put_kind(out, kind);
+    put_right(out, 12, records);
+    put_right(out, 12, frames);
+    out.put_byte(b'\n');
 }
 
 // A space, and a speed's name.
-fn put_rate(out: &mut [u8], at: usize, speed: u8) -> usize
-    ensures { Put (rate_text speed) out.old at out.new result }
+fn put_rate(out: &mut Out, speed: u8)
+    ensures { Puts (rate_text speed) out.old out.new }
 {
-    let next = text::put_byte(out, at, b' ');
-    names::put_speed(out, next, speed)
+    out.put_byte(b' ');
+    names::put_speed(out, speed);
 }
 
 // The same for the channels 0 to 3 in a region.
-fn put_rates(out: &mut [u8], at: usize, region: u8) -> usize
-    ensures { Put (rates_text (row_for region)) out.old at out.new result }
+fn put_rates(out: &mut Out, region: u8)
+    ensures { Puts (rates_text (row_for region)) out.old out.new }
 {
-    let first = put_rate(out, at, speed::speed_for(0, region));
-    let second = put_rate(out, first, speed::speed_for(1, region));
-    let third = put_rate(out, second, speed::speed_for(2, region));
-    put_rate(out, third, speed::speed_for(3, region))
+    for channel in 0..4 {
+        put_rate(out, speed::speed_for(channel, region));
+    }
 }
 
 // The line for a region of the wall chart: its number and its name in PTI records, and the rates of the channels 0 to 3.
-pub fn chart_line(out: &mut [u8], at: usize, region: u8) -> usize
-    ensures { Put (chart_text region) out.old at out.new result }
+pub fn chart_line(out: &mut Out, region: u8)
+    ensures { Puts (chart_text region) out.old out.new }
 {
-    let number = put_right(out, at, 6, region as u64);
-    let spaces = text::put_text(out, number, b"  ");
-    let name = names::put_region(out, spaces, PTI, region);
-    let rates = put_rates(out, name, region);
-    text::put_byte(out, rates, b'\n')
+    put_right(out, 6, u64::from(region));
+    out.put_text(b"  ");
+    names::put_region(out, PTI, region);
+    put_rates(out, region);
+    out.put_byte(b'\n');
 }

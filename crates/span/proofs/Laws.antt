@@ -3,7 +3,7 @@ use Prim.Native.Nat.{suc, ◌≤◌}
 use borrow.Author.Tests.{le-ltb}
 use lib.IntN.{ℤ}
 use mathlib.Core.Bool.{true}
-use mathlib.Core.Option.{some}
+use Rattle.std.specs.Prelude.{Some}
 use mathlib.Core.Path.{◌≡◌, ap}
 use native.Mathlib.Omega.{arith}
 use Rattle.layout.specs.Layout.{trace_limit}
@@ -21,13 +21,13 @@ module _ (t : Trace) (steps : Steps t.next t.size) (fits : t.size ≤ trace_limi
   unfolding meet searched
   from_the_start = is
 
-  pub span_there : (last : ℤ) × ((LastMet (meet t) last) × (span_of t ≡ span_to (t.millis (first_met t).offset) (some last)))
+  pub span_there : (last : ℤ) × ((LastMet (meet t) last) × (span_of t ≡ span_to (t.millis (first_met t).offset) (Some last)))
   unfolding span_of
   span_there =
-      let back : (last : ℤ) × (last_back (meet t) t.size (suc t.size) 1048576 ≡ some last) = reaches (meet t) t.size (meets t steps) t.size 1048576 (omega arith) (omega arith) from_the_start in (
+      let back : (last : ℤ) × (last_back (meet t) t.size (suc t.size) 1048576 ≡ Some last) = reaches (meet t) t.size (meets t steps) t.size 1048576 (omega arith) (omega arith) from_the_start in (
         back.0,
         (
           last_met (meet t) t.size (meets t steps) (suc t.size) 1048576 back.0 back.1,
-          simp (le-ltb trace_limit t.size fits, is, back.1) (ap (λ (z : ℤ). span_to z (some back.0)) (met_at_lem t 2048 is).time),
+          simp (le-ltb trace_limit t.size fits, is, back.1) (ap (λ (z : ℤ). span_to z (Some back.0)) (met_at_lem t 2048 is).time),
         ),
       )

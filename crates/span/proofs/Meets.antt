@@ -3,7 +3,7 @@ use Prim.Native.Nat.{ℕ, ◌+◌, ◌-◌, ◌^◌, ◌≤◌, ◌<◌}
 use borrow.Author.Tests.{le-ltb}
 use lib.IntN.{ℤ}
 use mathlib.Core.Bool.{Bool, true, false}
-use mathlib.Core.Option.{Option, none, some}
+use Rattle.std.specs.Prelude.{Option, None, Some}
 use mathlib.Core.Path.{◌≡◌, refl, sym, ap}
 use native.Mathlib.Omega.{arith}
 use Rattle.layout.specs.Layout.{trace_limit}
@@ -26,7 +26,7 @@ pub record MetAt (t : Trace) (from : ℕ) (m : MetTold) : Type 0 where
   pub in_window : m.offset < start_of from + default_window
   pub is_boundary : boundary t.next t.size m.offset ≡ true
   pub none_before : (k : ℕ) → start_of from ≤ k → k < m.offset → boundary t.next t.size k ≡ false
-  pub ends : t.next m.offset ≡ some m.end
+  pub ends : t.next m.offset ≡ Some m.end
   pub time : m.millis ≡ t.millis m.offset
 
 -- all that halving and walking need: records lie at or after the place, and end further on and inside
@@ -38,7 +38,7 @@ pub record Meets (met : ℕ → MetTold) (n : ℕ) : Type 0 where
 module _ (t : Trace) where
   met_by :
       (from : ℕ) (f : SearchTold) → f.is_found ≡ true → FoundFirst t.next t.size (start_of from) default_window f
-      → (m : ℕ) → t.next f.offset ≡ some m → MetAt t from (met_of t f)
+      → (m : ℕ) → t.next f.offset ≡ Some m → MetAt t from (met_of t f)
   unfolding met_of
   met_by from f is first m e =
       record {
@@ -57,7 +57,7 @@ module _ (t : Trace) where
   met_at_lem from is =
       let f : SearchTold = searched t.next t.size from default_window in
       let first : FoundFirst t.next t.size (start_of from) default_window f = found_is t.next t.size from default_window f refl is in
-      let next : (m : ℕ) × (t.next f.offset ≡ some m) = boundary_record t.next t.size f.offset first.is_boundary in
+      let next : (m : ℕ) × (t.next f.offset ≡ Some m) = boundary_record t.next t.size f.offset first.is_boundary in
       met_by from f is first next.0 next.1
 
   pub meets : Steps t.next t.size → Meets (meet t) t.size
@@ -69,11 +69,11 @@ module _ (t : Trace) where
       }
 
   judged_refusal : (start all : ℕ) (o : Option ℕ) → (judged_of start all o).refusal ≡ 0
-  judged_refusal start all none = refl
-  judged_refusal start all (some o) = refl
+  judged_refusal start all None = refl
+  judged_refusal start all (Some o) = refl
 
-  -- a search from inside a trace within the limit is not refused
-  pub not_refused : t.size ≤ trace_limit → (from : ℕ) → from ≤ t.size → (meet t from).refusal ≡ 0
+  -- a search in a trace within the limit, from a place within the limit, is not refused
+  pub not_refused : t.size ≤ trace_limit → (from : ℕ) → from ≤ trace_limit → (meet t from).refusal ≡ 0
   unfolding meet met_of searched
   not_refused fits from within =
       let room : start_of from + default_window ≤ 2 ^ 64 - 1 = omega arith in

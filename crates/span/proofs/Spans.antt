@@ -3,7 +3,7 @@ use Prim.Native.Nat.{ℕ, zero, suc, ◌-◌, ◌*◌, ◌≤◌, ◌<◌}
 use borrow.Author.Tests.{lt-ltb, le-ltb}
 use lib.IntN.{ℤ}
 use mathlib.Core.Bool.{Bool, true, false, false≢true}
-use mathlib.Core.Option.{Option, none, some}
+use Rattle.std.specs.Prelude.{Option, None, Some}
 use mathlib.Core.Path.{◌≡◌, refl, sym, ap, ◌∙◌}
 use native.Mathlib.Decide.{dec_lt}
 use native.Mathlib.Omega.{arith}
@@ -61,11 +61,11 @@ module _ (met : ℕ → MetTold) (n : ℕ) (ms : Meets met n) where
       one_more_lem k at time enough (sym (ap (λ (m : MetTold). m.is_found) e)) ∙ ap (λ (m : MetTold). last_time met k m.end m.millis) (sym e)
 
   -- walking back: a record met, the whole trace walked, or four times as far
-  pub back_met : (k back : ℕ) → (met (n - back)).is_found ≡ true → last_back met n (suc k) back ≡ some (last_time met n (met (n - back)).end (met (n - back)).millis)
+  pub back_met : (k back : ℕ) → (met (n - back)).is_found ≡ true → last_back met n (suc k) back ≡ Some (last_time met n (met (n - back)).end (met (n - back)).millis)
   unfolding last_back
   back_met k back is = rw is
 
-  pub back_whole : (k back : ℕ) → (met (n - back)).is_found ≡ false → n ≤ back → last_back met n (suc k) back ≡ none
+  pub back_whole : (k back : ℕ) → (met (n - back)).is_found ≡ false → n ≤ back → last_back met n (suc k) back ≡ None
   unfolding last_back
   back_whole k back is past = simp (is, le-ltb back n past)
 
@@ -104,12 +104,12 @@ module _ (met : ℕ → MetTold) (n : ℕ) (ms : Meets met n) where
     place : (b : Bool) → (met p).is_found ≡ b → (met (n - back)).is_found ≡ b
     place b e = ap (λ (at : ℕ). (met at).is_found) (sym p_is) ∙ e
 
-    pub met_there : (o end : ℕ) (t : ℤ) → met_at o end t ≡ met p → last_back met n (suc k) back ≡ some (last_time met n end t)
+    pub met_there : (o end : ℕ) (t : ℤ) → met_at o end t ≡ met p → last_back met n (suc k) back ≡ Some (last_time met n end t)
     met_there o end t e =
         back_met k back (place true (sym (ap (λ (m : MetTold). m.is_found) e)))
-        ∙ ap (λ (m : MetTold). some (last_time met n m.end m.millis)) (sym (e ∙ ap met p_is))
+        ∙ ap (λ (m : MetTold). Some (last_time met n m.end m.millis)) (sym (e ∙ ap met p_is))
 
-    pub none_there : (met p).is_found ≡ false → n ≤ back → last_back met n (suc k) back ≡ none
+    pub none_there : (met p).is_found ≡ false → n ≤ back → last_back met n (suc k) back ≡ None
     none_there e past = back_whole k back (place false e) past
 
     pub further_there : 0 < back → n - back ≤ k → (met p).is_found ≡ false → back < n → last_back met n (suc k) back ≡ last_back met n (suc k) (back * 4)
@@ -118,16 +118,16 @@ module _ (met : ℕ → MetTold) (n : ℕ) (ms : Meets met n) where
   -- what is met from the start is met in the end
   reaches_by :
       (k back : ℕ) → 0 < back → n - back ≤ k → (met 0).is_found ≡ true → Dec (back < n) → (b : Bool) → (met (n - back)).is_found ≡ b
-      → ((i : ℕ) → 0 < i → n - i < n - back → (time : ℤ) × (last_back met n k i ≡ some time)) → (time : ℤ) × (last_back met n (suc k) back ≡ some time)
+      → ((i : ℕ) → 0 < i → n - i < n - back → (time : ℤ) × (last_back met n k i ≡ Some time)) → (time : ℤ) × (last_back met n (suc k) back ≡ Some time)
   reaches_by k back some_bytes enough first d true is ih = (last_time met n (met (n - back)).end (met (n - back)).millis, back_met k back is)
   reaches_by k back some_bytes enough first (yes h) false is ih =
-      let rest : (time : ℤ) × (last_back met n k (back * 4) ≡ some time) = ih (back * 4) (omega arith) (omega arith) in
+      let rest : (time : ℤ) × (last_back met n k (back * 4) ≡ Some time) = ih (back * 4) (omega arith) (omega arith) in
       (rest.0, back_step k back is h ∙ rest.1)
   reaches_by k back some_bytes enough first (no h) false is ih =
       let start : n - back ≡ 0 = omega arith in
       absurd (false≢true (sym is ∙ ap (λ (at : ℕ). (met at).is_found) start ∙ first))
 
-  pub reaches : (k back : ℕ) → 0 < back → n - back ≤ k → (met 0).is_found ≡ true → (time : ℤ) × (last_back met n (suc k) back ≡ some time)
+  pub reaches : (k back : ℕ) → 0 < back → n - back ≤ k → (met 0).is_found ≡ true → (time : ℤ) × (last_back met n (suc k) back ≡ Some time)
   reaches zero back some_bytes enough first = reaches_by zero back some_bytes enough first (dec_lt back n) (met (n - back)).is_found refl (λ i p l. absurd (omega arith))
   reaches (suc k) back some_bytes enough first =
       reaches_by (suc k) back some_bytes enough first (dec_lt back n) (met (n - back)).is_found refl (λ i p l. reaches k i p (omega arith) first)
@@ -153,16 +153,16 @@ module _ (met : ℕ → MetTold) (n : ℕ) (ms : Meets met n) where
 
   back_by :
       (k back : ℕ) (z : ℤ) → Dec (back < n) → (b : Bool) → (met (n - back)).is_found ≡ b
-      → ((i : ℕ) → last_back met n k i ≡ some z → LastMet met z) → last_back met n (suc k) back ≡ some z → LastMet met z
+      → ((i : ℕ) → last_back met n k i ≡ Some z → LastMet met z) → last_back met n (suc k) back ≡ Some z → LastMet met z
   back_by k back z d true is ih e =
-      let same_option : some (last_time met n (met (n - back)).end (met (n - back)).millis) ≡ some z = sym (back_met k back is) ∙ e in
+      let same_option : Some (last_time met n (met (n - back)).end (met (n - back)).millis) ≡ Some z = sym (back_met k back is) ∙ e in
       let same_time : last_time met n (met (n - back)).end (met (n - back)).millis ≡ z = cc in
       rw same_time at (last_of n (met (n - back)).end (n - back) is refl (omega arith))
   back_by k back z (yes h) false is ih e = ih (back * 4) (sym (back_step k back is h) ∙ e)
   back_by k back z (no h) false is ih e =
-      absurd (let never : ◌≡◌ {A = Option ℤ} none (some z) = sym (back_whole k back is (omega arith)) ∙ e in let y : ◌≡◌ {A = ℕ} 0 1 = cc in omega arith)
+      absurd (let never : ◌≡◌ {A = Option ℤ} None (Some z) = sym (back_whole k back is (omega arith)) ∙ e in let y : ◌≡◌ {A = ℕ} 0 1 = cc in omega arith)
 
-  pub last_met : (k back : ℕ) (z : ℤ) → last_back met n k back ≡ some z → LastMet met z
+  pub last_met : (k back : ℕ) (z : ℤ) → last_back met n k back ≡ Some z → LastMet met z
   unfolding last_back
   last_met zero back z e = absurd (let y : ◌≡◌ {A = ℕ} 0 1 = cc in omega arith)
   last_met (suc k) back z e = back_by k back z (dec_lt back n) (met (n - back)).is_found refl (λ i. last_met k i z) e

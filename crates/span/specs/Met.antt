@@ -1,14 +1,13 @@
 -- What span and seeks see of a trace: a search for the next record, and of the record that it meets the place, the end and the time.
-use Rattle.std.specs.Prelude.{ℕ, ltb, ℤ, pos, length, Bool, true, false, cond, List}
-use Rattle.std.proofs.Math.Option.{Option, none, some}
+use Rattle.std.specs.Prelude.{ℕ, ltb, ℤ, pos, length, Bool, true, false, cond, List, Option, None, Some, Result, Ok, Err}
 use Rattle.ticks.specs.Ticks.{unix_millis}
 use Rattle.layout.specs.Layout.{header_size, trace_limit}
 use Rattle.layout.specs.Fields.{ticks_at}
 use Rattle.record.specs.Record.{Limits, plausible, next_at}
-use Rattle.resync.specs.Search.{SearchTold, searched, default_window}
+use Rattle.layout.specs.declared.TraceTooLong.{TraceTooLong}
+use Rattle.resync.specs.Search.{SearchTold, searched, default_window, search_refusal}
+use Rattle.resync.specs.declared.SearchError.{SearchError}
 use Rattle.span.specs.declared.Met.{Met}
-use Rattle.span.specs.declared.FirstRecord.{FirstRecord}
-use Rattle.span.specs.declared.FirstRecord.TheVariants as First
 
 -- a trace: its length, its record test (the place after the valid record at a place, or none), and the time of the record at a place
 pub record Trace : Type 0 where
@@ -29,8 +28,8 @@ pub record MetTold : Type 0 where
 
 -- the end of the record at a place where there is one: what a search finds is a boundary, so there it is
 abbrev pub end_of : Option ℕ → ℕ
-end_of none = 0
-end_of (some end) = end
+end_of None = 0
+end_of (Some end) = end
 
 unfoldable pub met_of : Trace → SearchTold → MetTold
 met_of t f =
@@ -54,11 +53,10 @@ abbrev pub not_met : ℕ → MetTold
 not_met refusal = record { refusal = refusal; is_found = false; offset = 0; end = 0; millis = pos 0 }
 
 -- each answer in the paper's numbers
-abbrev pub told_met : Met → MetTold
-told_met (Met.At offset end millis) = record { refusal = 0; is_found = true; offset = offset; end = end; millis = pos millis }
-told_met Met.Nothing = not_met 0
-told_met Met.TraceTooLong = not_met 1
-told_met Met.WindowTooLong = not_met 5
+abbrev pub told_met : Result (Option Met) SearchError → MetTold
+told_met (Ok (Some met)) = record { refusal = 0; is_found = true; offset = met.offset; end = met.next_offset; millis = pos met.unix_millis }
+told_met (Ok None) = not_met 0
+told_met (Err refusal) = not_met (search_refusal refusal)
 
 -- the first record: what a search from the header's end meets
 abbrev pub first_met : Trace → MetTold
@@ -80,7 +78,7 @@ first_of t =
     (first_told 0 (first_met t).is_found (first_met t).offset)
 
 -- each answer in the paper's numbers
-abbrev pub told_first : FirstRecord → FirstTold
-told_first (First.At offset) = first_told 0 true offset
-told_first First.Nothing = first_told 0 false 0
-told_first First.TraceTooLong = first_told 1 false 0
+abbrev pub told_first : Result (Option ℕ) TraceTooLong → FirstTold
+told_first (Ok (Some offset)) = first_told 0 true offset
+told_first (Ok None) = first_told 0 false 0
+told_first (Err refusal) = first_told 1 false 0

@@ -23,9 +23,9 @@ across (suc (suc (suc (suc channel)))) region h = absurd (omega arith)
 pub cell : {row : List ℕ} (channel region : ℕ) → row ≡ row_for region → channel < 4 → get_or row channel 0 ≡ speed_for channel region
 cell channel region e h = ap (λ (r : List ℕ). get_or r channel 0) e ∙ across channel region h
 
--- the pairs of the four lists are on the chart
+-- the pairs of the four lists are on the chart, in the regions below 18
 abbrev drawn : ℕ → Bool
-drawn key = ltb key 1024 && ltb (key % 256) 32
+drawn key = ltb key 1024 && ltb (key % 256) 18
 
 abbrev all_drawn : List ℕ → Bool
 all_drawn [] = true
@@ -55,12 +55,16 @@ off channel region n =
 pub beside : (channel region : ℕ) → 4 ≤ channel → 0 ≡ speed_for channel region
 beside channel region h = off channel region (simp (le-ltb (key_of channel region) 1024 (omega arith)))
 
--- below it, from region 32 on
-pub below : (channel region : ℕ) → 32 ≤ region → region < 256 → 0 ≡ speed_for channel region
-below channel region h k =
+-- from region 18 on nothing is drawn
+pub undrawn : (channel region : ℕ) → 18 ≤ region → region < 256 → 0 ≡ speed_for channel region
+undrawn channel region h k =
     off channel region
-    (simp (le-ltb (key_of channel region % 256) 32 (let m : key_of channel region % 256 ≡ region = omega arith in omega arith), and-false))
+    (simp (le-ltb (key_of channel region % 256) 18 (let m : key_of channel region % 256 ≡ region = omega arith in omega arith), and-false))
 
--- the row of a region that has no arm
-pub row_below : (region : ℕ) → 32 ≤ region → region < 256 → (0 ∷ 0 ∷ 0 ∷ 0 ∷ []) ≡ row_for region
-row_below region h k = simp (sym (below 0 region h k), sym (below 1 region h k), sym (below 2 region h k), sym (below 3 region h k))
+-- the rows of which nothing is drawn
+pub blank_first : (region : ℕ) → region ≡ 0 → (0 ∷ 0 ∷ 0 ∷ 0 ∷ []) ≡ row_for region
+unfolding speed_for among
+blank_first region e = ap row_for (sym e)
+
+pub blank : (region : ℕ) → 18 ≤ region → region < 256 → (0 ∷ 0 ∷ 0 ∷ 0 ∷ []) ≡ row_for region
+blank region h k = simp (sym (undrawn 0 region h k), sym (undrawn 1 region h k), sym (undrawn 2 region h k), sym (undrawn 3 region h k))

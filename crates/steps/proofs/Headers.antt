@@ -4,8 +4,8 @@ use lib.IntN.{pos, nat_abs}
 use lib.ListN.{length, take, drop, length-drop}
 use lib.Seq.{length-take-le}
 use mathlib.Core.List.{List}
-use mathlib.Core.Option.{some}
-use mathlib.Core.Path.{◌≡◌, refl, sym, ap, ◌∙◌}
+use Rattle.std.specs.Prelude.{Some, Ok}
+use mathlib.Core.Path.{◌≡◌, refl, sym, ap}
 use native.Mathlib.Omega.{arith}
 use Rattle.ticks.specs.Ticks.{unix_millis}
 use Rattle.layout.specs.Layout.{trace_limit}
@@ -14,8 +14,6 @@ use Rattle.record.proofs.Answers.{is_one, next_one}
 use Rattle.record.proofs.Valid.{valid_inside}
 use Rattle.record.specs.Record.{plausible, next_at, RecordTold, record_at, told_record}
 use Rattle.record.specs.declared.RecordHeader.{RecordHeader}
-use Rattle.record.specs.declared.Record.{Record}
-use Rattle.record.specs.declared.Record.TheVariants.{Valid}
 use Rattle.steps.specs.Step.{latest}
 use Rattle.steps.proofs.Tests.{told_fits, time_most}
 use Rattle.rows.specs.Rows.{payload_at, frames_at}
@@ -26,47 +24,40 @@ pub record Header (kinds s : List ℕ) (at : ℕ) (h : RecordHeader) : Type 0 wh
   pub kind : h.kind ≡ kind_at kinds s at
   pub outgoing : h.is_outcome ≡ outgoing_at s at
   pub millis : pos h.unix_millis ≡ unix_millis (ticks_at s at)
-  pub next : next_at plausible kinds s at ≡ some h.next_offset
+  pub next : next_at plausible kinds s at ≡ Some h.next_offset
   pub fits : length s ≤ trace_limit
   pub timed : h.unix_millis ≤ latest
   pub next_is : h.next_offset ≡ at + 14 + h.payload_len
   pub inside : at + 14 + h.payload_len ≤ length s
 
-module _ (kinds s : List ℕ) (at : ℕ) (r : Record) (told : told_record r ≡ record_at plausible kinds s at) (h : RecordHeader) (is : r ≡ Valid h) where
-  pub header : Header kinds s at h
-  header =
-      let t = told_record (Valid h) in
-      let e : t ≡ record_at plausible kinds s at = ap told_record (sym is) ∙ told in
-      let one = is_one plausible kinds s at t e refl in
-      let size_is : h.payload_len ≡ length_at s at = ap (λ (x : RecordTold). x.size) one.1 in
-      let next_is' : h.next_offset ≡ next_place s at = ap (λ (x : RecordTold). x.next) one.1 in
-      record {
-        size = size_is;
-        kind = ap (λ (x : RecordTold). x.kind) one.1;
-        outgoing = ap (λ (x : RecordTold). x.outgoing) one.1;
-        millis = ap (λ (x : RecordTold). x.millis) one.1;
-        next = next_one plausible kinds s at t e refl;
-        fits = told_fits plausible kinds s at t e refl;
-        timed =
-            rw (sym (ap (λ (x : RecordTold). nat_abs x.millis) one.1))
-            at (time_most plausible kinds s (omega arith) (omega arith) at h.next_offset (next_one plausible kinds s at t e refl));
-        next_is = omega arith;
-        inside = omega (arith, valid_inside plausible kinds s at one.0);
-      }
+pub header : (kinds s : List ℕ) (at : ℕ) (h : RecordHeader) → told_record (Ok (Some h)) ≡ record_at plausible kinds s at → Header kinds s at h
+header kinds s at h e =
+    let t = told_record (Ok (Some h)) in
+    let one = is_one plausible kinds s at t e refl in
+    let size_is : h.payload_len ≡ length_at s at = ap (λ (x : RecordTold). x.size) one.1 in
+    let next_is' : h.next_offset ≡ next_place s at = ap (λ (x : RecordTold). x.next) one.1 in
+    record {
+      size = size_is;
+      kind = ap (λ (x : RecordTold). x.kind) one.1;
+      outgoing = ap (λ (x : RecordTold). x.outgoing) one.1;
+      millis = ap (λ (x : RecordTold). x.millis) one.1;
+      next = next_one plausible kinds s at t e refl;
+      fits = told_fits plausible kinds s at t e refl;
+      timed =
+          rw (sym (ap (λ (x : RecordTold). nat_abs x.millis) one.1))
+          at (time_most plausible kinds s (omega arith) (omega arith) at h.next_offset (next_one plausible kinds s at t e refl));
+      next_is = omega arith;
+      inside = omega (arith, valid_inside plausible kinds s at one.0);
+    }
 
--- the length of a cut
-pub cut_length : (at n : ℕ) → at + 13 + n - (at + 13) ≡ n
-cut_length at n = omega arith
+-- its payload, as code cuts it out
+pub cut : (kinds s : List ℕ) (at : ℕ) (h : RecordHeader) → Header kinds s at h → take (at + 13 + h.payload_len - (at + 13)) (drop (at + 13) s) ≡ payload_at s at
+cut kinds s at h x = let size : at + 13 + h.payload_len - (at + 13) ≡ length_at s at = omega (arith, x.size) in rw size
 
--- the frames of its payload
-pub frames_of : (kinds s : List ℕ) (at : ℕ) (h : RecordHeader) → Header kinds s at h → (from : ℕ)
-    → frames_from h.kind h.is_outcome (take h.payload_len (drop (at + 13) s)) from ≡ frames_at kinds s at from
-frames_of kinds s at h x from = rw x.size (rw x.kind (rw x.outgoing))
-
--- and of the payload as code cuts it out
-pub frames : (kinds s : List ℕ) (at : ℕ) (h : RecordHeader) → Header kinds s at h → (from : ℕ)
-    → frames_from h.kind h.is_outcome (take (at + 13 + h.payload_len - (at + 13)) (drop (at + 13) s)) from ≡ frames_at kinds s at from
-frames kinds s at h x from = rw (cut_length at h.payload_len) (frames_of kinds s at h x from)
+-- and the frames in it
+pub frames_of : (kinds s : List ℕ) (at : ℕ) (h : RecordHeader) → Header kinds s at h → (p : List ℕ) → p ≡ payload_at s at → (from : ℕ)
+    → frames_from h.kind h.is_outcome p from ≡ frames_at kinds s at from
+frames_of kinds s at h x p e from = rw e (rw x.kind (rw x.outgoing))
 
 pub payload_length : (kinds s : List ℕ) (at : ℕ) (h : RecordHeader) → Header kinds s at h → length (payload_at s at) ≡ h.payload_len
 payload_length kinds s at h x = rw (sym x.size) (length-take-le h.payload_len (drop (at + 13) s) (simp length-drop (omega (arith, x.inside))))

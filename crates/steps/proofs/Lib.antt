@@ -1,6 +1,4 @@
 pub mod Tests
 pub mod Headers
-pub mod Differences
-pub mod Placing
 pub mod Stepping
 pub mod Only

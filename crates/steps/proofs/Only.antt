@@ -2,29 +2,31 @@
 -- answer. Assumes nothing.
 use lib.Dec.{eqb}
 use mathlib.Core.Bool.{cond}
-use mathlib.Core.Path.{◌≡◌, refl, ap}
+use mathlib.Core.Path.{◌≡◌, refl}
 use Rattle.choice.proofs.Only.{only}
-use Rattle.steps.specs.Step.{StepTold, refusal_of, is_place_of, is_row_of, told_step}
+use Rattle.std.specs.Prelude.{Option, None, Some, Result, Ok, Err}
+use Rattle.rows.specs.declared.Row.{Row}
+use Rattle.steps.specs.Step.{StepTold, told_step}
+use Rattle.steps.specs.declared.Place.{Place}
 use Rattle.steps.specs.declared.Step.{Step}
-use Rattle.steps.specs.declared.StepAnswer.{StepAnswer}
-use Rattle.steps.specs.declared.StepAnswer.TheVariants as Answer
+use Rattle.steps.specs.declared.StepError.{StepError}
 
-back_answer : StepTold → StepAnswer
-back_answer t = cond (eqb t.refusal 0) (cond t.is_row Answer.Row (cond t.is_place Answer.End Answer.NoSuchPlace)) Answer.TraceTooLong
+back_step : StepTold → Result Step StepError
+back_step t =
+    cond t.is_place (Ok (record { row = cond t.is_row (Some t.row) None; next = t.next }))
+    (cond (eqb t.refusal 0) (Err StepError.NoSuchPlace) (Err StepError.TraceTooLong))
 
-back_step : StepTold → Step
-back_step t = record { row = t.row; next = t.next; answer = back_answer t }
+module _ (p : Place) where
+  same_row : (row : Option Row) (next : Place) → back_step (told_step p (Ok (record { row = row; next = next }))) ≡ Ok (record { row = row; next = next })
+  unfolding back_step
+  same_row (Some row) next = refl
+  same_row None next = refl
 
-same_answer : (r : Step) (a : StepAnswer) → back_answer (record { refusal = refusal_of a; is_place = is_place_of a; is_row = is_row_of a; row = r.row; next = r.next }) ≡ a
-unfolding back_answer
-same_answer r Answer.Row = refl
-same_answer r Answer.End = refl
-same_answer r Answer.TraceTooLong = refl
-same_answer r Answer.NoSuchPlace = refl
+  same_step : (r : Result Step StepError) → back_step (told_step p r) ≡ r
+  unfolding back_step
+  same_step (Ok r) = same_row r.row r.next
+  same_step (Err StepError.TraceTooLong) = refl
+  same_step (Err StepError.NoSuchPlace) = refl
 
-same_step : (r : Step) → back_step (told_step r) ≡ r
-unfolding back_step
-same_step r = ap (λ (a : StepAnswer). record { row = r.row; next = r.next; answer = a }) (same_answer r r.answer)
-
-pub only_step : (a b : Step) → told_step a ≡ told_step b → a ≡ b
-only_step = only told_step back_step same_step
+  pub only_step : (a b : Result Step StepError) → told_step p a ≡ told_step p b → a ≡ b
+  only_step = only (told_step p) back_step same_step

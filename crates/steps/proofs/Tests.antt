@@ -6,7 +6,7 @@ use lib.IntN.{pos, nat_abs}
 use lib.ListN.{length}
 use mathlib.Core.Bool.{Bool, true, false, cond, false≢true}
 use mathlib.Core.List.{List}
-use mathlib.Core.Option.{some}
+use Rattle.std.specs.Prelude.{Some}
 use mathlib.Core.Path.{◌≡◌, refl, sym, ap, ◌∙◌}
 use native.Mathlib.Omega.{arith}
 use Rattle.ticks.specs.Ticks.{unix_millis}
@@ -29,12 +29,12 @@ module _ (limits : Limits) (kinds s : List ℕ) where
 
   -- the time of a record is that of a number
   module _ (low : 630822816000000000 ≤ limits.low) (high : limits.high ≤ 662479488000000000) where
-    pub time_is : (at m : ℕ) → next_at limits kinds s at ≡ some m → pos (nat_abs (unix_millis (ticks_at s at))) ≡ unix_millis (ticks_at s at)
+    pub time_is : (at m : ℕ) → next_at limits kinds s at ≡ Some m → pos (nat_abs (unix_millis (ticks_at s at))) ≡ unix_millis (ticks_at s at)
     time_is at m e =
         let t = valid_time limits kinds s at low high (some_valid limits kinds s at m e).0 in
         rw t.1.0
 
-    pub time_most : (at m : ℕ) → next_at limits kinds s at ≡ some m → nat_abs (unix_millis (ticks_at s at)) ≤ latest
+    pub time_most : (at m : ℕ) → next_at limits kinds s at ≡ Some m → nat_abs (unix_millis (ticks_at s at)) ≤ latest
     time_most at m e =
         let t = valid_time limits kinds s at low high (some_valid limits kinds s at m e).0 in
         rw t.1.0 (omega arith)

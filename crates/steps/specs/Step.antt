@@ -1,7 +1,7 @@
 -- The rows of the records from a place on, one at a time: how a table is filled. That these are the page's rows is `filled` of
 -- paging/proofs/Filled.antt.
-use Rattle.std.specs.Prelude.{ℕ, zero, suc, ◌+◌, ◌≤◌, ltb, ℤ, pos, nat_abs, ◌-ℤ◌, length, Bool, true, false, cond, ◌||◌, List, [], ◌∷◌}
-use Rattle.std.proofs.Math.Option.{Option, none, some}
+use Rattle.std.specs.Prelude.{ℕ, zero, suc, ◌+◌, ◌≤◌, ltb, ℤ, pos, nat_abs, ◌-ℤ◌, length, Bool, true, false, cond, ◌||◌, List, [], ◌∷◌, Option, None, Some, IfSome, is_some, Result, Ok, Err}
+use Rattle.std.specs.Option.{unwrap_or}
 use Rattle.ticks.specs.Ticks.{unix_millis}
 use Rattle.layout.specs.Layout.{trace_limit}
 use Rattle.layout.specs.Fields.{ticks_at}
@@ -9,13 +9,13 @@ use Rattle.record.specs.Record.{Limits, next_at}
 use Rattle.pti.specs.declared.PtiFrame.{PtiFrame}
 use Rattle.rows.specs.Frames.{first_of}
 use Rattle.rows.specs.Rows.{row_of, frames_at}
-use Rattle.rows.specs.declared.Next.{Next}
+use Rattle.rows.specs.declared.NextFrame.{NextFrame}
 use Rattle.rows.specs.declared.Row.{Row}
 use Rattle.seam.specs.Walk.{walk}
 use Rattle.steps.specs.declared.Place.{Place}
 use Rattle.steps.specs.declared.Step.{Step}
-use Rattle.steps.specs.declared.StepAnswer.{StepAnswer}
-use Rattle.steps.specs.declared.StepAnswer.TheVariants as Answer
+use Rattle.steps.specs.declared.StepError.{StepError}
+use Rattle.steps.specs.declared.StepError.TheVariants.{TraceTooLong, NoSuchPlace}
 
 -- the largest time that a valid record can have, in milliseconds
 abbrev pub latest : ℕ
@@ -24,20 +24,25 @@ latest = 4112352000000
 -- the places that a page comes to: a position is no further on than the index, and a time before is a record's
 pub record Sound (p : Place) : Type 0 where
   pub counted : p.position ≤ p.index
-  pub timed : p.previous ≤ latest
+  pub timed : IfSome p.previous (λ before. before ≤ latest)
 
 -- the others
+abbrev pub is_late : Option ℕ → Bool
+is_late None = false
+is_late (Some before) = ltb latest before
+
 abbrev pub unsound : Place → Bool
-unsound p = ltb p.index p.position || ltb latest p.previous
+unsound p = ltb p.index p.position || is_late p.previous
 
 -- 01: "gap to the previous row's time (0 for the first)"
 abbrev pub gap_of : Option ℤ → ℤ → ℤ
-gap_of none time = pos 0
-gap_of (some before) time = time -ℤ before
+gap_of None time = pos 0
+gap_of (Some before) time = time -ℤ before
 
 -- the time before a place's next row, if there is one
-abbrev pub before_of : Bool → ℕ → Option ℤ
-before_of has previous = cond has (some (pos previous)) none
+abbrev pub before_of : Option ℕ → Option ℤ
+before_of None = None
+before_of (Some before) = Some (pos before)
 
 abbrev pub blank_row : Row
 blank_row =
@@ -58,11 +63,11 @@ blank_row =
 
 -- the same time before, at another place
 abbrev pub moved_to : Place → ℕ → ℕ → ℕ → Place
-moved_to p at index position = record { offset = at; index = index; position = position; has_previous = p.has_previous; previous = p.previous }
+moved_to p at index position = record { offset = at; index = index; position = position; previous = p.previous }
 
 -- the first place of the record at an offset, with no time before
 abbrev pub start_place : ℕ → Place
-start_place at = record { offset = at; index = 0; position = 0; has_previous = false; previous = 0 }
+start_place at = record { offset = at; index = 0; position = 0; previous = None }
 
 -- what a step answers: the refusal's number or 0, whether pages come to its place, whether a row comes, the row, and the place after it
 pub record StepTold : Type 0 where
@@ -79,15 +84,15 @@ row_step_at p time millis f next =
       refusal = 0;
       is_place = true;
       is_row = true;
-      row = row_of p.offset p.position time (gap_of (before_of p.has_previous p.previous) time) f;
-      next = record { offset = p.offset; index = next; position = p.position + 1; has_previous = true; previous = millis };
+      row = row_of p.offset p.position time (gap_of (before_of p.previous) time) f;
+      next = record { offset = p.offset; index = next; position = p.position + 1; previous = Some millis };
     }
 
 -- the record's next frame, or what comes after the record
-abbrev pub row_step : List ℕ → Place → Next → StepTold → StepTold
-row_step s p (Next.Frame f next) rest =
-    row_step_at p (unix_millis (ticks_at s p.offset)) (nat_abs (unix_millis (ticks_at s p.offset))) f next
-row_step s p Next.End rest = rest
+abbrev pub row_step : List ℕ → Place → Option NextFrame → StepTold → StepTold
+row_step s p (Some f) rest =
+    row_step_at p (unix_millis (ticks_at s p.offset)) (nat_abs (unix_millis (ticks_at s p.offset))) f.frame f.next
+row_step s p None rest = rest
 
 -- no row comes any more: the place reached has no valid record
 abbrev pub no_step : Place → StepTold
@@ -125,31 +130,18 @@ unfoldable pub rows_of : Limits → List ℕ → List ℕ → Place → ℕ → 
 rows_of limits kinds s p zero = []
 rows_of limits kinds s p (suc n) = (step_of limits kinds s p).row ∷ rows_of limits kinds s (step_of limits kinds s p).next n
 
--- each answer in the paper's numbers; "no such place" is the port's own and has none
-abbrev pub refusal_of : StepAnswer → ℕ
-refusal_of Answer.TraceTooLong = 1
-refusal_of Answer.NoSuchPlace = 0
-refusal_of Answer.End = 0
-refusal_of Answer.Row = 0
+-- each answer in the paper's numbers, from the place given; "no such place" is the port's own and has none
+abbrev pub refusal_of : StepError → ℕ
+refusal_of TraceTooLong = 1
+refusal_of NoSuchPlace = 0
 
-abbrev pub is_place_of : StepAnswer → Bool
-is_place_of Answer.TraceTooLong = false
-is_place_of Answer.NoSuchPlace = false
-is_place_of Answer.End = true
-is_place_of Answer.Row = true
-
-abbrev pub is_row_of : StepAnswer → Bool
-is_row_of Answer.TraceTooLong = false
-is_row_of Answer.NoSuchPlace = false
-is_row_of Answer.End = false
-is_row_of Answer.Row = true
-
-abbrev pub told_step : Step → StepTold
-told_step r =
+abbrev pub told_step : Place → Result Step StepError → StepTold
+told_step p (Ok step) =
     record {
-      refusal = refusal_of r.answer;
-      is_place = is_place_of r.answer;
-      is_row = is_row_of r.answer;
-      row = r.row;
-      next = r.next;
+      refusal = 0;
+      is_place = true;
+      is_row = is_some step.row;
+      row = unwrap_or step.row blank_row;
+      next = step.next;
     }
+told_step p (Err e) = nowhere (refusal_of e) p

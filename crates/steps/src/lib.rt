@@ -1,187 +1,193 @@
 // The rows of the records from a place on, by value and one at a time: how a page is filled.
 #![tactic(auto)]
 
-ghost use Rattle.std.specs.Prelude.{◌≡◌, ◌+◌, ◌≤◌, ◌<◌, length, take, drop, pos, ltb, cond};
-ghost use Rattle.record.specs.Record.{plausible};
-ghost use Rattle.rows.specs.Frames.{first_of, frames_from};
-ghost use Rattle.rows.specs.Rows.{row_of};
-ghost use Rattle.layout.specs.Layout.{trace_limit};
-ghost use Rattle.steps.specs.declared.StepAnswer.TheVariants.{TraceTooLong};
-ghost use Rattle.steps.specs.Step.{latest, Sound, gap_of, before_of, blank_row, moved_to, unless_long, row_step_at, step_on, step_of, told_step};
+ghost use Rattle.std.specs.Prelude.{◌≡◌, ◌+◌, ◌≤◌, ◌<◌, pos, Ok, IfSome};
+ghost use Rattle.std.specs.Option.{option_map};
+ghost use Rattle.record.specs.Record.{plausible, record_at, told_record};
+ghost use Rattle.rows.specs.Rows.{row_of, payload_at};
+ghost use Rattle.steps.specs.declared.StepError.TheVariants.{TraceTooLong};
+ghost use Rattle.steps.specs.Step.{latest, Sound, unsound, gap_of, before_of, moved_to, start_place, row_step_at, step_of, told_step};
 
-use layout::{RECORD_HEADER, TRACE_LIMIT};
+use layout::{RECORD_HEADER, Readable, Trace, TraceTooLong};
 use pti::PtiFrame;
-use record::{Record, RecordHeader};
-use rows::{Next, Row};
+use record::RecordHeader;
+use rows::{NextFrame, Row};
 
 // The largest time that a valid record can have, in milliseconds.
 const LATEST: u64 = 4_112_352_000_000;
 
-// Where filling stands: a record, the index in its payload, the next row's position, and the time of the row before.
-#[derive(Clone, Copy)]
+// Where filling stands: a record, the index in its payload, the next row's position, and the time of the row before, if there is one.
+#[derive(Clone, Copy, Debug, PartialEq, Eq)]
 pub struct Place {
     pub offset: usize,
     pub index: usize,
     pub position: usize,
-    pub has_previous: bool,
-    pub previous: u64,
+    pub previous: Option<u64>,
 }
 
-// What a step comes to: a row, the end of the valid records, or no step at all.
-#[derive(Clone, Copy)]
-pub enum StepAnswer {
-    Row,
-    End,
+impl Place {
+    // The first place of a record, with no time before.
+    pub fn start(offset: usize) -> Place
+        ensures { result ≡ start_place offset }
+    {
+        Place {
+            offset,
+            index: 0,
+            position: 0,
+            previous: None,
+        }
+    }
+
+    // Whether no page comes to the place.
+    fn is_unsound(self) -> bool
+        ensures { result ≡ unsound self }
+    {
+        (self.index < self.position) | self.previous.is_some_and(|before| LATEST < before)
+    }
+
+    // The first place of a record that follows, with the same time before.
+    fn moved_to(self, offset: usize) -> Place
+        ensures { result ≡ moved_to self offset 0 0 }
+    {
+        Place {
+            previous: self.previous,
+            ..Place::start(offset)
+        }
+    }
+}
+
+// A record's header and its payload.
+#[derive(Clone, Copy, Debug, PartialEq, Eq)]
+pub struct ValidRecord<'a> {
+    pub header: RecordHeader,
+    pub payload: &'a [u8],
+}
+
+// A row, or none where no valid record comes any more, and the place after it.
+#[derive(Clone, Copy, Debug, PartialEq, Eq)]
+pub struct Step {
+    pub row: Option<Row>,
+    pub next: Place,
+}
+
+// Why there is no step: a trace over the limit, or a place that no page comes to. The latter is none of the refusals that have a number.
+#[derive(Clone, Copy, Debug, PartialEq, Eq)]
+pub enum StepError {
     TraceTooLong,
     NoSuchPlace,
 }
 
-// The answer, a row where one comes, and the place after it.
-#[derive(Clone, Copy)]
-pub struct Step {
-    pub row: Row,
-    pub next: Place,
-    pub answer: StepAnswer,
+impl From<TraceTooLong> for StepError {
+    ghost from_gives = { λ _ e. e ≡ TraceTooLong };
+
+    fn from(_refusal: TraceTooLong) -> Self {
+        StepError::TraceTooLong
+    }
 }
 
-// The next frame of the record that a place is in.
-fn frame_in(s: &[u8], p: Place, header: RecordHeader) -> Next
-    requires { p.offset + 14 + header.payload_len ≤ length s.now }
-    ensures { result ≡ first_of (frames_from header.kind header.is_outcome (take header.payload_len (drop (p.offset + 13) s.now)) p.index) }
+// The valid record at an offset, if there is one.
+pub fn valid_record<'a>(trace: Readable<'a>, offset: usize) -> Option<ValidRecord<'a>>
+    ensures header { told_record (Ok (option_map (λ r. r.header) result)) ≡ record_at plausible trace.entry.kinds.now trace.entry.bytes.now offset }
+    ensures payload { IfSome result (λ r. r.payload.now ≡ payload_at trace.entry.bytes.now offset) }
 {
-    let first = p.offset + RECORD_HEADER;
-    let end = first + header.payload_len;
-    let payload = &s[first..end];
-    rows::next_frame(payload, header.kind, header.is_outcome, p.index)
+    let Some(header) = record::record_at(trace, offset) else {
+        return None;
+    };
+    let first = offset + RECORD_HEADER;
+    Some(ValidRecord {
+        header,
+        payload: &trace.bytes[first..first + header.payload_len],
+    })
 }
 
 // The time since the row before, or 0 where there is none.
-fn gap_of(has_previous: bool, previous: u64, now: u64) -> i64
-    requires { (previous ≤ latest) × (now ≤ latest) }
-    ensures { result ≡ gap_of (before_of has_previous previous) (pos now) }
+fn gap_of(previous: Option<u64>, now: u64) -> i64
+    requires before { IfSome previous (λ before. before ≤ latest) }
+    requires now { now ≤ latest }
+    ensures { result ≡ gap_of (before_of previous) (pos now) }
 {
-    if !has_previous {
-        return 0;
+    match previous {
+        None => 0,
+        Some(before) => now as i64 - before as i64,
     }
-    (now as i64) - (previous as i64)
 }
 
-// A frame's row.
-fn row_of(offset: usize, position: usize, millis: u64, gap: i64, frame: PtiFrame) -> Row
-    requires { (millis ≤ latest) × (offset + 13 + frame.mpdu < 18446744073709551616) }
-    ensures { result ≡ row_of offset position (pos millis) gap frame }
+// A frame's row, with the time of its record.
+fn row_of(place: Place, millis: u64, frame: PtiFrame) -> Row
+    requires sound { Sound place }
+    requires timed { millis ≤ latest }
+    requires inside { place.offset + 13 + frame.mpdu < 18446744073709551616 }
+    ensures { result ≡ row_of place.offset place.position (pos millis) (gap_of (before_of place.previous) (pos millis)) frame }
 {
     Row {
-        record: offset,
-        position,
+        record: place.offset,
+        position: place.position,
         millis: millis as i64,
-        gap,
+        gap: gap_of(place.previous, millis),
         direction: frame.direction,
         region: frame.region,
         channel: frame.channel,
         speed: frame.speed,
         rssi: frame.rssi,
         beam_count: frame.beam_count,
-        mpdu: offset + RECORD_HEADER + frame.mpdu,
+        mpdu: place.offset + RECORD_HEADER + frame.mpdu,
         mpdu_len: frame.mpdu_len,
     }
 }
 
-// A row with nothing in it.
-pub fn blank() -> Row
-    ensures { result ≡ blank_row }
-{
-    Row {
-        record: 0,
-        position: 0,
-        millis: 0,
-        gap: 0,
-        direction: 0,
-        region: 0,
-        channel: 0,
-        speed: 0,
-        rssi: 0,
-        beam_count: 0,
-        mpdu: 0,
-        mpdu_len: 0,
-    }
-}
-
-// No row comes from a place, for the reason that the answer names, or because the trace is too long.
-fn no_step(s: &[u8], p: Place, answer: StepAnswer) -> Step
-    ensures { (result.row ≡ blank_row) × (result.next ≡ p) × (result.answer ≡ cond (ltb trace_limit (length s.now)) TraceTooLong answer) }
-{
-    let row = blank();
-    if TRACE_LIMIT < s.len() {
-        return Step {
-            row,
-            next: p,
-            answer: StepAnswer::TraceTooLong,
-        };
-    }
-    Step {
-        row,
-        next: p,
-        answer,
-    }
-}
-
 // A frame's row, and the place after it.
-fn row_step(p: Place, millis: u64, frame: PtiFrame, next: usize) -> Step
-    requires { Sound p × (millis ≤ latest) × (p.offset + 13 + frame.mpdu < 18446744073709551616) × (p.position < next) }
-    ensures { told_step result ≡ row_step_at p (pos millis) millis frame next }
+fn row_step(place: Place, millis: u64, found: NextFrame) -> Step
+    requires sound { Sound place }
+    requires timed { millis ≤ latest }
+    requires inside { place.offset + 13 + found.frame.mpdu < 18446744073709551616 }
+    requires further { place.position < found.next }
+    ensures { told_step place (Ok result) ≡ row_step_at place (pos millis) millis found.frame found.next }
 {
-    let gap = gap_of(p.has_previous, p.previous, millis);
-    let row = row_of(p.offset, p.position, millis, gap, frame);
     Step {
-        row,
+        row: Some(row_of(place, millis, found.frame)),
         next: Place {
-            offset: p.offset,
-            index: next,
-            position: p.position + 1,
-            has_previous: true,
-            previous: millis,
+            offset: place.offset,
+            index: found.next,
+            position: place.position + 1,
+            previous: Some(millis),
         },
-        answer: StepAnswer::Row,
     }
 }
 
-// The first place of a record that follows, with the same time before.
-fn moved_to(p: Place, at: usize) -> Place
-    ensures { result ≡ moved_to p at 0 0 }
+// The next row from a place that a page comes to, in its record or in those that follow it, and the place after it.
+fn step_from(trace: Readable, place: Place) -> Step
+    requires { Sound place }
+    ensures { told_step place (Ok result) ≡ step_of plausible trace.entry.kinds.now trace.entry.bytes.now place }
 {
-    Place {
-        offset: at,
-        index: 0,
-        position: 0,
-        has_previous: p.has_previous,
-        previous: p.previous,
-    }
-}
-
-// The next row from a place on, in its record or in those that follow it.
-fn step_from(kinds: &[u8; 256], s: &[u8], p: Place) -> Step
-    requires { Sound p }
-    ensures { told_step result ≡ unless_long s.now p (step_on plausible kinds.now s.now p) }
-{
-    let mut at = p;
+    let mut at = place;
     loop {
-        let Record::Valid { header } = record::read_record(kinds, s, at.offset) else {
-            return no_step(s, at, StepAnswer::End);
+        let Some(ValidRecord { header, payload }) = valid_record(trace, at.offset) else {
+            return Step {
+                row: None,
+                next: at,
+            };
         };
-        if let Next::Frame { frame, next } = frame_in(s, at, header) {
-            return row_step(at, header.unix_millis, frame, next);
+        let found = rows::next_frame(payload, header.kind, header.is_outcome, at.index);
+        if let Some(found) = found {
+            return row_step(at, header.unix_millis, found);
         }
-        at = moved_to(at, header.next_offset);
+        at = at.moved_to(header.next_offset);
     }
 }
 
-// The next row from a place on, and the place after it. A place that no page comes to is told as such.
-pub fn step_at(kinds: &[u8; 256], s: &[u8], p: Place) -> Step
-    ensures { told_step result ≡ step_of plausible kinds.now s.now p }
+// The next row from any place of a trace within the limit. A place that no page comes to is told as such.
+pub fn step_within(trace: Readable, place: Place) -> Result<Step, StepError>
+    ensures { told_step place result ≡ step_of plausible trace.entry.kinds.now trace.entry.bytes.now place }
 {
-    if (p.index < p.position) | (LATEST < p.previous) {
-        return no_step(s, p, StepAnswer::NoSuchPlace);
+    if place.is_unsound() {
+        return Err(StepError::NoSuchPlace);
     }
-    step_from(kinds, s, p)
+    Ok(step_from(trace, place))
+}
+
+// The same of any trace: one over the limit is refused.
+pub fn step_at(trace: Trace, place: Place) -> Result<Step, StepError>
+    ensures { told_step place result ≡ step_of plausible trace.entry.kinds.now trace.entry.bytes.now place }
+{
+    step_within(trace.readable()?, place)
 }

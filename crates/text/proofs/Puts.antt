@@ -10,7 +10,8 @@ use native.Mathlib.Numerals.{add-one}
 use native.Mathlib.Omega.{arith}
 use borrow.Author.Tests.{lt-ltb, le-ltb, ltb-true, ltb-false}
 use Rattle.choice.proofs.Choice.{by_choice, either}
-use Rattle.text.specs.Put.{Filled, filled, with_byte, with_text, Put}
+use Rattle.text.specs.Put.{Filled, filled, with_byte, with_text, Put, Puts}
+use Rattle.text.specs.declared.Out.{Out}
 use Rattle.text.specs.Texts.{capital, hex_text}
 
 pub put_append : (f : Filled) (a b : List ℕ) → with_text f (a ++ b) ≡ with_text (with_text f a) b
@@ -29,31 +30,45 @@ unfolding with_text
 text_out out at h [] = record { puts = refl }
 text_out out at h (b ∷ bs) = record { puts = simp (le-ltb _ _ h) (text_out out at h bs).puts }
 
+-- no text
+pub nothing : (o : Out) → Puts [] o o
+unfolding with_text
+nothing o = record { put = record { puts = refl }; same = refl }
+
 -- one text after another
-pub joined : {a b out₀ out₁ out₂ : List ℕ} {r₀ r₁ r₂ : ℕ} → Put a out₀ r₀ out₁ r₁ → Put b out₁ r₁ out₂ r₂ → Put (a ++ b) out₀ r₀ out₂ r₂
-joined {a} {b} p q = record { puts = q.puts ∙ ap (λ (f : Filled). with_text f b) p.puts ∙ sym (put_append _ a b) }
+pub joined : {a b : List ℕ} {o₀ o₁ o₂ : Out} → Puts a o₀ o₁ → Puts b o₁ o₂ → Puts (a ++ b) o₀ o₂
+joined {a} {b} p q =
+    record {
+      put = record { puts = q.put.puts ∙ ap (λ (f : Filled). with_text f b) p.put.puts ∙ sym (put_append _ a b) };
+      same = q.same ∙ p.same;
+    }
 
 -- the same text by another name
-pub renamed : {a b out₀ out₁ : List ℕ} {r₀ r₁ : ℕ} → a ≡ b → Put a out₀ r₀ out₁ r₁ → Put b out₀ r₀ out₁ r₁
-renamed e p = record { puts = p.puts ∙ ap (with_text _) e }
+pub renamed : {a b : List ℕ} {o₀ o₁ : Out} → a ≡ b → Puts a o₀ o₁ → Puts b o₀ o₁
+renamed e p = record { put = record { puts = p.put.puts ∙ ap (with_text _) e }; same = p.same }
 
 -- a part of a text is still to be put, and with it the text is whole: what holds at each turn of a loop that puts a text
-pub record Left (text before : List ℕ) (at : ℕ) (rest out : List ℕ) (r : ℕ) : Type 0 where
-  pub whole : with_text (filled out r) rest ≡ with_text (filled before at) text
+pub record Left (text : List ℕ) (before : Out) (rest : List ℕ) (out : Out) : Type 0 where
+  pub whole : with_text (filled out.bytes.now out.at) rest ≡ with_text (filled before.bytes.now before.at) text
+  pub same : out.bytes.ghost_name ≡ before.bytes.ghost_name
 
-pub all_left : (text out : List ℕ) (at : ℕ) → Left text out at text out at
-all_left text out at = record { whole = refl }
+pub all_left : (text : List ℕ) (out : Out) → Left text out text out
+all_left text out = record { whole = refl; same = refl }
 
-pub less_left : {text before rest a rest' out out' : List ℕ} {at r r' : ℕ} → Left text before at rest out r → rest ≡ a ++ rest' → Put a out r out' r'
-    → Left text before at rest' out' r'
-less_left {rest' = rest'} l e p = record { whole = ap (λ (f : Filled). with_text f rest') p.puts ∙ sym (put_append _ _ rest') ∙ ap (with_text _) (sym e) ∙ l.whole }
+pub less_left : {text rest a rest' : List ℕ} {before out out' : Out} → Left text before rest out → rest ≡ a ++ rest' → Puts a out out'
+    → Left text before rest' out'
+less_left {rest' = rest'} l e p =
+    record {
+      whole = ap (λ (f : Filled). with_text f rest') p.put.puts ∙ sym (put_append _ _ rest') ∙ ap (with_text _) (sym e) ∙ l.whole;
+      same = p.same ∙ l.same;
+    }
 
-pub none_left : {text before rest out : List ℕ} {at r : ℕ} → Left text before at rest out r → rest ≡ [] → Put text before at out r
+pub none_left : {text rest : List ℕ} {before out : Out} → Left text before rest out → rest ≡ [] → Puts text before out
 unfolding with_text
-none_left l e = record { puts = ap (with_text _) (sym e) ∙ l.whole }
+none_left l e = record { put = record { puts = ap (with_text _) (sym e) ∙ l.whole }; same = l.same }
 
 -- what is left, put at once
-pub rest_put : {text before rest a out out' : List ℕ} {at r r' : ℕ} → Left text before at rest out r → rest ≡ a → Put a out r out' r' → Put text before at out' r'
+pub rest_put : {text rest a : List ℕ} {before out out' : Out} → Left text before rest out → rest ≡ a → Puts a out out' → Puts text before out'
 rest_put l e p = none_left (less_left l (e ∙ sym (append-nil _)) p) refl
 
 -- the bytes from a place on are the byte there and those after it

@@ -1,5 +1,6 @@
 -- A text put into a buffer from a place on.
 use Rattle.std.specs.Prelude.{ℕ, ◌+◌, ltb, length, set, cond, List, [], ◌∷◌, ◌≡◌}
+use Rattle.text.specs.declared.Out.{Out}
 
 -- a buffer, and the place where its free part begins
 pub record Filled : Type 0 where
@@ -22,3 +23,8 @@ with_text f (b ∷ bs) = with_text (with_byte f b) bs
 -- the buffer and the place after a text
 pub record Put (text before : List ℕ) (at : ℕ) (after : List ℕ) (r : ℕ) : Type 0 where
   pub puts : filled after r ≡ with_text (filled before at) text
+
+-- the same of a lent buffer and its place before and after: it is the buffer that was lent
+pub record Puts (text : List ℕ) (before after : Out) : Type 0 where
+  pub put : Put text before.bytes.now before.at after.bytes.now after.at
+  pub same : after.bytes.ghost_name ≡ before.bytes.ghost_name

@@ -17,15 +17,9 @@ pub fn ticks(raw: u64) -> u64
     raw % 0x4000_0000_0000_0000
 }
 
-// Milliseconds since the Unix epoch, rounded toward zero.
+// Milliseconds since the Unix epoch, rounded toward zero. A tick count is below 2^62, so an i64 has it, and `/` rounds toward zero.
 pub fn unix_millis(raw: u64) -> i64
     ensures { result ≡ unix_millis raw }
 {
-    let t = ticks(raw);
-    if TICKS_UNIX_EPOCH <= t {
-        let after = (t - TICKS_UNIX_EPOCH) / TICKS_PER_MILLISECOND;
-        return after as i64;
-    }
-    let before = (TICKS_UNIX_EPOCH - t) / TICKS_PER_MILLISECOND;
-    -(before as i64)
+    (ticks(raw) as i64 - TICKS_UNIX_EPOCH as i64) / TICKS_PER_MILLISECOND as i64
 }

@@ -1,127 +1,117 @@
 -- Texts read byte after byte: forms, digits and their number, from a place on. Assumes nothing.
-use Prim.Native.Nat.{ℕ, suc, ◌+◌, ◌-◌, ◌*◌, ◌^◌, ◌≤◌, ◌<◌}
-use borrow.Author.Tests.{le-leb, lt-leb, eq-eqb, ne_eqb}
-use lib.ListN.{length, get_or, drop, drop_of_length-le}
-use lib.Seq.{drop-cons}
-use mathlib.Core.Bool.{Bool, true, false, ◌&&◌}
-use mathlib.Core.List.{List, [], ◌∷◌}
-use mathlib.Core.Option.{none, some}
-use mathlib.Core.Path.{◌≡◌, refl, sym, ap}
-use native.Mathlib.Nat.{pow-le-pow_right}
-use native.Mathlib.Numerals.{add-one}
-use native.Mathlib.Omega.{arith}
-use Rattle.calendar.specs.Calendar.{instant_of}
-use Rattle.written.specs.Written.{unix_epoch, is_digit, fits_byte, fits_form, day_form, second_form, milli_form, pair_at, date_in, all_digits, is_number, value_from, value_of, number_in, after_sign, bare_in, timed_in, time_in}
+use Rattle.std.proofs.Common.{◌≡◌, ℕ, zero, suc, ◌+◌, ◌-◌, ◌*◌, ◌^◌, ◌≤◌, ◌<◌, List, [], ◌∷◌, length, get_or, drop, arith, refl, sym, ap, ◌∙◌}
+use Rattle.std.proofs.lemmas.Grind.{common_steps}
+use Rattle.std.specs.Prelude.{Bool, true, false, ◌&&◌, cond, leb, None, Some}
+use borrow.Author.Tests.{leb-true}
+use Rattle.std.specs.Char.{digit_value}
+use Rattle.std.proofs.lemmas.List.{at_drop_more}
+use Rattle.std.proofs.Math.ListN.{drop_of_length-le}
+use Rattle.std.proofs.Math.Nat.{pow-le-pow_right, pow-suc}
+use Rattle.std.proofs.Math.Numerals.{add-one}
+use Rattle.std.proofs.lemmas.Bool.{and_parts}
+use Rattle.std.proofs.Math.Nat.{mul-le-mul_right}
+use Rattle.written.specs.Written.{number_in, is_number, value_of, is_digit, fits_byte, fits_form, all_digits, value_from}
 
 and-false : (a : Bool) → (a && false) ≡ false
 and-false true = refl
 and-false false = refl
 
 -- a text of another length than the form
-pub unequal : (f s : List ℕ) → (length s ≡ length f → ⊥) → false ≡ fits_form f s
+pub unequal : (f s : List ℕ) → (length s ≡ length f → ⊥) → fits_form f s ≡ false
 unfolding fits_form
 unequal [] [] h = absurd (h refl)
 unequal [] (c ∷ cs) h = refl
 unequal (f ∷ fs) [] h = refl
-unequal (f ∷ fs) (c ∷ cs) h = rw (← unequal fs cs (λ e. h (ap suc e))) (sym (and-false (fits_byte f c)))
+unequal (f ∷ fs) (c ∷ cs) h = rw (unequal fs cs (λ e. h (ap suc e))) (and-false (fits_byte f c))
 
-module _ (f s : List ℕ) (same : length s ≡ length f) (i : ℕ) where
-  pub fits_next : i < length f → fits_form (drop i f) (drop i s) ≡ (fits_byte (get_or f i 0) (get_or s i 0) && fits_form (drop (i + 1) f) (drop (i + 1) s))
-  unfolding fits_form
-  fits_next h = let g : i < length s = omega arith in rw (add-one i) (rw (drop-cons f i 0 h) (rw (drop-cons s i 0 g)))
+-- a text with a byte that does not fit
+misfits : (f s : List ℕ) (k : ℕ) → k < length f → k < length s → fits_byte (get_or f k 0) (get_or s k 0) ≡ false → fits_form f s ≡ false
+unfolding fits_form
+misfits [] s k h l e = absurd (omega arith)
+misfits (f ∷ fs) [] k h l e = refl
+misfits (f ∷ fs) (c ∷ cs) zero h l e = rw e
+misfits (f ∷ fs) (c ∷ cs) (suc k) h l e = rw (misfits fs cs k (omega arith) (omega arith) e) (and-false (fits_byte f c))
 
-  pub fits_end : length f ≤ i → true ≡ fits_form (drop i f) (drop i s)
-  unfolding fits_form
-  fits_end h = rw (drop_of_length-le f {i = i} h) (rw (drop_of_length-le s {i = i} (omega arith)))
+-- a text whose bytes fit
+all_fit : (f s : List ℕ) → length s ≡ length f → ((k : ℕ) → k < length f → fits_byte (get_or f k 0) (get_or s k 0) ≡ true) → fits_form f s ≡ true
+unfolding fits_form
+all_fit [] [] e h = refl
+all_fit [] (c ∷ cs) e h = absurd (omega arith)
+all_fit (f ∷ fs) [] e h = absurd (omega arith)
+all_fit (f ∷ fs) (c ∷ cs) e h = rw (h 0 (omega arith)) (all_fit fs cs (omega arith) (λ k l. h (suc k) (omega arith)))
 
-module _ (s : List ℕ) where
-  pub too_short : length s < 1 → false ≡ is_number s
-  too_short h = simp (lt-leb 1 (length s) h)
+-- what a test of each pair of bytes says of the whole
+pub by_bytes : (f s : List ℕ) (b : Bool) → length s ≡ length f
+    → (b ≡ true → (k : ℕ) → k < length f → fits_byte (get_or f k 0) (get_or s k 0) ≡ true)
+    → (b ≡ false → (k : ℕ) × ((k < length f) × (fits_byte (get_or f k 0) (get_or s k 0) ≡ false)))
+    → b ≡ fits_form f s
+by_bytes f s true e t n = sym (all_fit f s e (t refl))
+by_bytes f s false e t n = sym (misfits f s (n refl).0 (n refl).1.0 (omega (arith, e, (n refl).1.0)) (n refl).1.1)
 
-  pub too_long : 1 ≤ length s → 17 < length s → false ≡ is_number s
-  too_long l h = simp (le-leb 1 (length s) l, lt-leb (length s) 17 h)
+-- a digit's value by std
+is_one : (c : ℕ) → digit_value c < 10 → (is_digit c ≡ true) × (c - 48 ≡ digit_value c)
+is_one c h = grind (arith, common_steps)
 
-  pub by_digits : 1 ≤ length s → length s ≤ 17 → (b : Bool) → b ≡ all_digits s → b ≡ is_number s
-  by_digits l h b e = simp (le-leb 1 (length s) l, le-leb (length s) 17 h) e
+is_none : (c : ℕ) → (digit_value c < 10 → ⊥) → is_digit c ≡ false
+is_none c h = grind (arith, common_steps)
 
--- so many digits bound a number
-pub most : (i n : ℕ) → i ≤ n → 10 ^ i ≤ 10 ^ n
-most i n h = pow-le-pow_right {n = 10} (omega arith) h
-
+-- a number read digit by digit, from the place at hand on
 module _ (s : List ℕ) (i : ℕ) where
-  pub digits_next : i < length s → all_digits (drop i s) ≡ (is_digit (get_or s i 0) && all_digits (drop (i + 1) s))
+  pub digits_next : i < length s → digit_value (get_or s i 0) < 10 → all_digits (drop i s) ≡ all_digits (drop (i + 1) s)
   unfolding all_digits
-  digits_next h = rw (add-one i) (rw (drop-cons s i 0 h))
+  digits_next h d = at_drop_more all_digits s i 0 h ∙ ap (λ (b : Bool). b && all_digits (drop (i + 1) s)) (is_one (get_or s i 0) d).0
 
-  pub digits_end : length s ≤ i → true ≡ all_digits (drop i s)
+  pub no_digits : i < length s → (digit_value (get_or s i 0) < 10 → ⊥) → all_digits (drop i s) ≡ false
   unfolding all_digits
-  digits_end h = rw (drop_of_length-le s {i = i} h)
+  no_digits h d = at_drop_more all_digits s i 0 h ∙ ap (λ (b : Bool). b && all_digits (drop (i + 1) s)) (is_none (get_or s i 0) d)
 
-  pub value_next : (n : ℕ) → i < length s → value_from n (drop i s) ≡ value_from (10 * n + (get_or s i 0 - 48)) (drop (i + 1) s)
+  pub digits_end : length s ≤ i → all_digits (drop i s) ≡ true
+  unfolding all_digits
+  digits_end h = rw (drop_of_length-le s h)
+
+  pub value_next : (n d : ℕ) → i < length s → d < 10 → digit_value (get_or s i 0) ≡ d
+      → value_from n (drop i s) ≡ value_from (10 * n + d) (drop (i + 1) s)
   unfolding value_from
-  value_next n h = rw (add-one i) (rw (drop-cons s i 0 h))
+  value_next n d h l e = at_drop_more (value_from n) s i 0 h ∙ ap (λ (v : ℕ). value_from (10 * n + v) (drop (i + 1) s)) ((is_one (get_or s i 0) (omega arith)).1 ∙ e)
 
   pub value_end : (n : ℕ) → length s ≤ i → value_from n (drop i s) ≡ n
   unfolding value_from
-  value_end n h = rw (drop_of_length-le s {i = i} h)
+  value_end n h = rw (drop_of_length-le s h)
 
--- what a number comes to
-module _ (s : List ℕ) where
-  pub number_read : is_number s ≡ true → (n : ℕ) → n ≡ value_of s → some n ≡ number_in s
-  unfolding number_in
-  number_read e n q = simp (e, q)
+-- so many digits bound a number
+pub bound_next : (i n d : ℕ) → n < 10 ^ i → d < 10 → 10 * n + d < 10 ^ (i + 1)
+bound_next i n d h l = rw (add-one i, pow-suc 10 i) (omega arith)
 
-  pub no_number : is_number s ≡ false → none ≡ number_in s
-  unfolding number_in
-  no_number e = simp e
+pub most : (i n : ℕ) → n < 10 ^ i → i ≤ 17 → n < 100000000000000000
+most i n h l = let p : 10 ^ i ≤ 10 ^ 17 = pow-le-pow_right {n = 10} (omega arith) l in omega arith
 
-  pub before_none : is_number s ≡ false → none ≡ after_sign s
-  unfolding after_sign
-  before_none e = simp e
+pub ruleset number = (digits_next, no_digits, digits_end, value_next, value_end, bound_next, most)
 
-  module _ (e : is_number s ≡ true) (n : ℕ) (q : n ≡ value_of s) where
-    pub before_read : n ≤ unix_epoch → some (unix_epoch - n) ≡ after_sign s
-    unfolding after_sign
-    before_read h = rw (← q) (simp (e, le-leb n unix_epoch h))
+-- the number of a text of digits is below a power of ten
+digit_small : (c : ℕ) → is_digit c ≡ true → c - 48 < 10
+digit_small c e = grind (arith, common_steps)
 
-    pub before_first : unix_epoch < n → none ≡ after_sign s
-    unfolding after_sign
-    before_first h = rw (← q) (simp (e, lt-leb n unix_epoch h))
+value_below : (s : List ℕ) (n : ℕ) → all_digits s ≡ true → value_from n s < (n + 1) * 10 ^ length s
+unfolding all_digits value_from
+value_below [] n e = omega arith
+value_below (c ∷ cs) n e =
+    let parts = and_parts (is_digit c) (all_digits cs) e in
+    let rest = value_below cs (10 * n + (c - 48)) parts.1 in
+    let small = digit_small c parts.0 in
+    let more : (10 * n + (c - 48) + 1) * 10 ^ length cs ≤ (10 * n + 10) * 10 ^ length cs = mul-le-mul_right (10 ^ length cs) (omega arith) in
+    rw (pow-suc 10 (length cs)) (omega arith)
 
-    pub bare_read : some (unix_epoch + n) ≡ bare_in s
-    unfolding bare_in
-    bare_read = rw (← q) (simp e)
+below_if : (s : List ℕ) (n : ℕ) (b : Bool) → is_number s ≡ b → cond b (Some (value_of s)) None ≡ Some n → n < 100000000000000000
+below_if s n true t e =
+    let long = and_parts (leb 1 (length s)) (leb (length s) 17 && all_digits s) t in
+    let digits = and_parts (leb (length s) 17) (all_digits s) long.1 in
+    let same : value_of s ≡ n = cc in
+    let below = value_below s 0 digits.1 in
+    let short : length s ≤ 17 = leb-true _ _ digits.0 in
+    let most : 10 ^ length s ≤ 10 ^ 17 = pow-le-pow_right {n = 10} (omega arith) short in
+    omega arith
+below_if s n false t e = cc
 
-  module _ (e : is_number s ≡ false) where
-    pub bare_empty : length s < 1 → none ≡ bare_in s
-    unfolding bare_in
-    bare_empty h = simp (lt-leb 1 (length s) h)
-
-    module _ (l : 1 ≤ length s) where
-      pub bare_signed : get_or s 0 0 ≡ 0x2D → after_sign (drop 1 s) ≡ bare_in s
-      unfolding bare_in
-      bare_signed h = rw e (simp (le-leb 1 (length s) l, eq-eqb (get_or s 0 0) 0x2D h))
-
-      pub bare_other : (get_or s 0 0 ≡ 0x2D → ⊥) → none ≡ bare_in s
-      unfolding bare_in
-      bare_other h = rw e (simp (le-leb 1 (length s) l, ne_eqb (get_or s 0 0) 0x2D h))
-
--- what a text says, by its form
-module _ (s : List ℕ) where
-  pub day_said : fits_form day_form s ≡ true → instant_of (date_in s 0 0 0 0) ≡ time_in s
-  unfolding time_in
-  day_said e = simp e
-
-  module _ (d : fits_form day_form s ≡ false) where
-    pub second_said : fits_form second_form s ≡ true → timed_in s 0 ≡ time_in s
-    unfolding time_in
-    second_said e = simp (d, e)
-
-    module _ (t : fits_form second_form s ≡ false) where
-      pub milli_said : fits_form milli_form s ≡ true → (n : ℕ) → n ≡ 10 * pair_at s 20 + (get_or s 22 0 - 48) → timed_in s n ≡ time_in s
-      unfolding time_in
-      milli_said e n q = simp (d, t, e, q)
-
-      pub bare_said : fits_form milli_form s ≡ false → bare_in s ≡ time_in s
-      unfolding time_in
-      bare_said e = simp (d, t, e)
+pub number_below : (s : List ℕ) (n : ℕ) → number_in s ≡ Some n → n < 100000000000000000
+unfolding number_in
+number_below s n e = below_if s n (is_number s) refl e

@@ -1,11 +1,8 @@
 -- Times as people and scripts write them: ISO 8601 in UTC, or milliseconds since the Unix epoch.
-use Rattle.std.specs.Prelude.{ℕ, ◌+◌, ◌-◌, ◌*◌, ◌/◌, ◌%◌, leb, eqb, get_or, length, drop, Bool, true, false, cond, ◌&&◌, List, [], ◌∷◌}
-use Rattle.std.proofs.Math.Option.{Option, none, some}
+use Rattle.std.specs.Prelude.{ℕ, ◌+◌, ◌-◌, ◌*◌, ◌/◌, ◌%◌, leb, eqb, get_or, length, drop, Bool, true, false, cond, ◌&&◌, List, [], ◌∷◌, Option, None, Some}
 use Rattle.ticks.specs.Ticks.{epoch, per_millisecond}
 use Rattle.calendar.specs.Calendar.{instant_of}
 use Rattle.calendar.specs.declared.Date.{Date}
-use Rattle.written.specs.declared.Decimal.{Decimal}
-use Rattle.written.specs.declared.Decimal.TheVariants.{Number, Unreadable as Unread}
 
 -- the Unix epoch, as an instant
 abbrev pub unix_epoch : ℕ
@@ -84,20 +81,16 @@ abbrev pub is_number : List ℕ → Bool
 is_number s = leb 1 (length s) && (leb (length s) 17 && all_digits s)
 
 unfoldable pub number_in : List ℕ → Option ℕ
-number_in s = cond (is_number s) (some (value_of s)) none
-
-abbrev pub told_number : Decimal → Option ℕ
-told_number (Number n) = some n
-told_number Unread = none
+number_in s = cond (is_number s) (Some (value_of s)) None
 
 -- the instant so many milliseconds before the Unix epoch, if there is one
 unfoldable pub after_sign : List ℕ → Option ℕ
-after_sign s = cond (is_number s && leb (value_of s) unix_epoch) (some (unix_epoch - value_of s)) none
+after_sign s = cond (is_number s && leb (value_of s) unix_epoch) (Some (unix_epoch - value_of s)) None
 
 -- a number of milliseconds since the Unix epoch, with `-` before it if need be
 unfoldable pub bare_in : List ℕ → Option ℕ
 bare_in s =
-    cond (is_number s) (some (unix_epoch + value_of s)) (cond (leb 1 (length s) && eqb (get_or s 0 0) 0x2D) (after_sign (drop 1 s)) none)
+    cond (is_number s) (Some (unix_epoch + value_of s)) (cond (leb 1 (length s) && eqb (get_or s 0 0) 0x2D) (after_sign (drop 1 s)) None)
 
 -- the instant of a date and a time of day to the second, with milliseconds that are given apart
 abbrev pub timed_in : List ℕ → ℕ → Option ℕ

@@ -2,26 +2,12 @@
 #![tactic(auto)]
 
 ghost use Rattle.std.specs.Prelude.{true, ◌≡◌, ◌+◌, ◌-◌, ◌*◌, ◌%◌, ◌≤◌, ◌<◌, length};
-ghost use Rattle.calendar.specs.Calendar.{told_instant};
-ghost use Rattle.written.specs.Written.{unix_epoch, iso_text, is_digit, fits_byte, fits_form, pair_at, date_in, value_of, is_number, number_in, told_number, time_in, after_sign, bare_in, timed_in};
+ghost use Rattle.written.specs.Written.{iso_text, fits_byte, fits_form, pair_at, date_in, number_in, time_in, after_sign, bare_in, timed_in};
 
-use calendar::{Date, Instant};
+use calendar::Date;
 
 // The Unix epoch, 1 January 1970, as an instant.
 pub const UNIX_EPOCH: u64 = 62_135_596_800_000;
-
-// A number that was read.
-#[derive(Clone, Copy)]
-pub enum Decimal {
-    Number { n: u64 },
-    Unreadable,
-}
-
-fn wide(x: u8) -> u64
-    ensures { (result ≡ x) × (result < 256) }
-{
-    x as u64
-}
 
 // The last digit of a number.
 fn digit(n: u64) -> u8
@@ -31,6 +17,7 @@ fn digit(n: u64) -> u8
 }
 
 // A date and a time of day as ISO 8601 has them, to the millisecond: `2024-05-01T12:34:56.789Z`.
+#[tactic(auto, unfolding(crate::specs::Written::iso_text))]
 pub fn iso(d: Date) -> [u8; 24]
     ensures { result ≡ iso_text d }
 {
@@ -62,163 +49,110 @@ pub fn iso(d: Date) -> [u8; 24]
     ]
 }
 
-fn is_digit(c: u8) -> bool
-    ensures { result ≡ is_digit c }
-{
-    (48 <= c) & (c <= 57)
-}
-
 // Whether a text has a form, in which `0` stands for any digit, and every other byte for itself.
+#[tactic(auto, using(crate::proofs::Reading::unequal))]
 fn fits(text: &[u8], form: &[u8]) -> bool
     ensures { result ≡ fits_form form.now text.now }
 {
-    if text.len() != form.len() {
-        return false;
-    }
-    let mut i: usize = 0;
-    while i < form.len() {
-        if !fits_byte(text[i], form[i]) {
-            return false;
-        }
-        i += 1;
-    }
-    true
+    text.len() == form.len() && text.iter().zip(form).all(|(c, f)| fits_byte(*c, *f))
 }
 
 fn fits_byte(c: u8, f: u8) -> bool
     ensures { result ≡ fits_byte f c }
 {
     if f == b'0' {
-        return is_digit(c);
+        c.is_ascii_digit()
+    } else {
+        c == f
     }
-    c == f
 }
 
 // The value of a digit.
 fn value(c: u8) -> u64
-    ensures { (result ≡ c - 48) × (result < 208) }
+    ensures value { result ≡ c - 48 }
+    ensures bound { result < 208 }
 {
-    let n = wide(c);
-    if n < 48 { 0 } else { n - 48 }
+    u64::from(c.saturating_sub(b'0'))
 }
 
 // The number of the two digits at a place.
 fn pair_at(text: &[u8], at: usize) -> u64
     requires { at < 100 }
-    ensures { (result ≡ pair_at text.now at) × (result < 3000) }
+    ensures value { result ≡ pair_at text.now at }
+    ensures bound { result < 3000 }
 {
     10 * value(layout::u8_at(text, at)) + value(layout::u8_at(text, at + 1))
 }
 
-// The number of a text of digits.
-fn number(text: &[u8]) -> u64
-    requires { length text.now ≤ 17 }
-    ensures { (result ≡ value_of text.now) × (result < 2300000000000000000) }
-{
-    let mut n: u64 = 0;
-    let mut i: usize = 0;
-    while i < text.len() {
-        n = 10 * n + value(text[i]);
-        i += 1;
-    }
-    n
-}
-
-// Whether a text is from 1 to 17 digits.
-fn is_number(text: &[u8]) -> bool
-    ensures { (result ≡ is_number text.now) × (result ≡ true → length text.now ≤ 17) }
-{
-    if text.len() < 1 {
-        return false;
-    }
-    if 17 < text.len() {
-        return false;
-    }
-    let mut i: usize = 0;
-    while i < text.len() {
-        if !is_digit(text[i]) {
-            return false;
-        }
-        i += 1;
-    }
-    true
-}
-
 // Reads a number of from 1 to 17 digits.
-pub fn number_in(text: &[u8]) -> Decimal
-    ensures { told_number result ≡ number_in text.now }
+#[tactic(auto, using(crate::proofs::Reading::number), unfolding(crate::specs::Written::number_in))]
+pub fn number_in(text: &[u8]) -> Option<u64>
+    ensures { result ≡ number_in text.now }
 {
-    if is_number(text) {
-        return Decimal::Number { n: number(text) };
+    if !(1..=17).contains(&text.len()) {
+        return None;
     }
-    Decimal::Unreadable
+    let mut n = 0;
+    for c in text {
+        n = 10 * n + u64::from(char::from(*c).to_digit(10)?);
+    }
+    Some(n)
 }
 
-// The date at the start of a text, at a time of day.
-fn date_in(text: &[u8], hour: u64, minute: u64, second: u64, milli: u64) -> Date
-    ensures { result ≡ date_in text.now hour minute second milli }
+// The day at the start of a text, at midnight.
+fn day_in(text: &[u8]) -> Date
+    ensures { result ≡ date_in text.now 0 0 0 0 }
 {
     Date {
         year: 100 * pair_at(text, 0) + pair_at(text, 2),
         month: pair_at(text, 5),
         day: pair_at(text, 8),
-        hour,
-        minute,
-        second,
-        milli,
+        hour: 0,
+        minute: 0,
+        second: 0,
+        milli: 0,
     }
 }
 
 // The instant of a date and a time of day to the second, with milliseconds that are given apart.
-fn timed(text: &[u8], milli: u64) -> Instant
-    ensures { told_instant result ≡ timed_in text.now milli }
+fn timed(text: &[u8], milli: u64) -> Option<u64>
+    ensures { result ≡ timed_in text.now milli }
 {
-    let hour = pair_at(text, 11);
-    let minute = pair_at(text, 14);
-    let second = pair_at(text, 17);
-    calendar::instant_of(date_in(text, hour, minute, second, milli))
+    calendar::instant_of(Date {
+        hour: pair_at(text, 11),
+        minute: pair_at(text, 14),
+        second: pair_at(text, 17),
+        milli,
+        ..day_in(text)
+    })
 }
 
 // The milliseconds after a `-`, before the Unix epoch.
-fn before_epoch(text: &[u8]) -> Instant
-    ensures { told_instant result ≡ after_sign text.now }
+#[tactic(auto, unfolding(crate::specs::Written::number_in, crate::specs::Written::after_sign))]
+fn before_epoch(text: &[u8]) -> Option<u64>
+    ensures { result ≡ after_sign text.now }
 {
-    if !is_number(text) {
-        return Instant::Nothing;
-    }
-    let n = number(text);
-    if n <= UNIX_EPOCH {
-        return Instant::At {
-            millis: UNIX_EPOCH - n,
-        };
-    }
-    Instant::Nothing
+    UNIX_EPOCH.checked_sub(number_in(text)?)
 }
 
 // A number of milliseconds since the Unix epoch, of at most 17 digits and with a sign if need be.
-fn bare(text: &[u8]) -> Instant
-    ensures { told_instant result ≡ bare_in text.now }
+#[tactic(auto, using(crate::proofs::Reading::number_below), unfolding(crate::specs::Written::number_in, crate::specs::Written::bare_in))]
+fn bare(text: &[u8]) -> Option<u64>
+    ensures { result ≡ bare_in text.now }
 {
-    if is_number(text) {
-        return Instant::At {
-            millis: UNIX_EPOCH + number(text),
-        };
+    if let Some(n) = number_in(text) {
+        return Some(UNIX_EPOCH + n);
     }
-    if text.len() < 1 {
-        return Instant::Nothing;
-    }
-    if text[0] == b'-' {
-        return before_epoch(&text[1..]);
-    }
-    Instant::Nothing
+    before_epoch(text.strip_prefix(b"-")?)
 }
 
 // Reads a time: `2024-05-01T12:34:56.789Z`, the same without its milliseconds, a day alone, or milliseconds since the Unix epoch.
-pub fn parse(text: &[u8]) -> Instant
-    ensures { told_instant result ≡ time_in text.now }
+#[tactic(auto, unfolding(crate::specs::Written::time_in, crate::specs::Written::day_form, crate::specs::Written::second_form, crate::specs::Written::milli_form))]
+pub fn parse(text: &[u8]) -> Option<u64>
+    ensures { result ≡ time_in text.now }
 {
     if fits(text, b"0000-00-00") {
-        return calendar::instant_of(date_in(text, 0, 0, 0, 0));
+        return calendar::instant_of(day_in(text));
     }
     if fits(text, b"0000-00-00T00:00:00Z") {
         return timed(text, 0);

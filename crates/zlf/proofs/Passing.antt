@@ -4,7 +4,7 @@ use Prim.Native.Nat.{ℕ, ◌+◌, ◌-◌, ◌≤◌}
 use borrow.Author.Tests.{ltb-false}
 use lib.Dec.{ltb, eqb}
 use mathlib.Core.Bool.{Bool, true, false, cond, ◌||◌, true≢false, false≢true}
-use mathlib.Core.Option.{Option, some}
+use Rattle.std.specs.Prelude.{Option, Some}
 use mathlib.Core.Path.{◌≡◌, refl, sym, ap, ◌∙◌}
 use native.Mathlib.Omega.{arith}
 use Rattle.layout.specs.Layout.{header_size, trace_limit}
@@ -53,7 +53,7 @@ module _ (next : ℕ → Option ℕ) (n : ℕ) where
   allowed at q = allowed_by at (seam_of n (reach next n at)) (ltb trace_limit n) (ltb at header_size) (ltb n at) refl refl refl q
 
   module _ (steps : Steps next n) (from at k : ℕ) (p : Passed from at k) where
-    pub one_more_lem : (m : ℕ) → next at ≡ some m → Passed from m (k + 1)
+    pub one_more_lem : (m : ℕ) → next at ≡ Some m → Passed from m (k + 1)
     one_more_lem m e =
         let further = steps.grows at m e in
         record {

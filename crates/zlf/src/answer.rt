@@ -1,99 +1,93 @@
 // The answer to a call, once the trace is read.
-ghost use Rattle.std.specs.Prelude.{true, ◌≡◌, ◌≤◌, length};
+ghost use Rattle.std.specs.Prelude.{◌≤◌, length};
 ghost use Rattle.layout.specs.Layout.{header_size, trace_limit};
-ghost use Rattle.seam.specs.Opening.{told_opening};
 
+use crate::args::Question;
 use crate::asked::Ask;
-use crate::{args, facts, info, list, out, records, refuse};
-use seam::{Opening, Seam};
+use crate::facts::Facts;
+use crate::out::Lines;
+use crate::refuse::Refused;
+use crate::{facts, info, list, records, refuse};
+use layout::Trace;
 use seek::SeekTime;
+use text::Out;
 
-// The refusal that an opening is, or 0.
-fn refusal_of(o: Opening) -> usize
-    ensures { result ≡ (told_opening o).refusal }
-{
-    match o {
-        Opening::Opened { version: _ } => 0,
-        Opening::TraceTooLong => 1,
-        Opening::TraceTooShort => 2,
-        Opening::OtherVersion { version: _ } => 4,
-    }
+// What is asked of a trace, by which kind table, and its file.
+#[derive(Clone, Copy)]
+pub struct Query<'a> {
+    pub rt: &'a HostRuntime,
+    pub path: &'a [u8],
+    pub kinds: &'a [u8; 256],
+    pub ask: Ask,
 }
 
-// Whether a trace opens as a cursor; it says why not.
-fn is_open(rt: &HostRuntime, path: &[u8], s: &[u8], version: u32) -> bool
-    ensures { result ≡ true → (header_size ≤ length s.now) × (length s.now ≤ trace_limit) }
-{
-    let number = refusal_of(seam::open(s, version));
-    if number == 0 {
-        return true;
+// A trace that opens as a cursor: it has a header, and is not over the limit.
+#[derive(Clone, Copy)]
+pub struct Opened<'a> {
+    pub trace: Trace<'a>,
+    ghost has_header: { header_size ≤ length trace.bytes.now },
+    ghost fits: { length trace.bytes.now ≤ trace_limit },
+}
+
+// Opens a trace as a cursor does.
+fn open<'a>(query: Query, trace: Trace<'a>) -> Result<Opened<'a>, Refused> {
+    match seam::open(trace.bytes, query.ask.version) {
+        Ok(_) => Ok(Opened { trace }),
+        Err(e) => Err(refuse::opening(query.rt, query.path, e, trace.bytes)),
     }
-    refuse::opening(rt, path, number, s);
-    false
 }
 
 // The seam check from a place.
-fn check(
-    rt: &HostRuntime,
-    path: &[u8],
-    kinds: &[u8; 256],
-    s: &[u8],
-    ask: Ask,
-    lines: &mut [u8],
-) -> u8 {
-    let mark = seam::seam_check(kinds, s, ask.place);
-    if let Seam::PlaceOutside = mark {
-        refuse::refusal(rt, path, 6, facts::of(ask.place as u64, s.len() as u64, 0));
-        return 2;
+fn check(query: Query, opened: Opened, lines: &mut Lines) -> Result<u8, Refused> {
+    let place = query.ask.place;
+    let size = opened.trace.bytes.len();
+    let seam = seam::seam_check(opened.trace, place);
+    if let Err(e) = seam {
+        let f = Facts::of(place as u64, size as u64, 0);
+        return Err(refuse::refusal(query.rt, query.path, e, f));
     }
-    let at = list::put_mark(lines, 0, mark, ask.place, s.len(), ask.plain);
-    out::finish(rt, lines, at, list::status_of(mark))
+    list::put_mark(lines, seam, place, size);
+    Ok(lines.finish(list::status_of(seam)))
 }
 
 // The seek to a time.
-fn sought(rt: &HostRuntime, kinds: &[u8; 256], s: &[u8], ask: Ask, lines: &mut [u8]) -> u8 {
-    let r = seek::seek_time(kinds, s, ask.time);
-    if let SeekTime::Found { offset, halvings } = r {
-        let at = info::put_found(lines, kinds, s, offset, halvings, ask.plain);
-        return out::finish(rt, lines, at, 0);
+fn sought(query: Query, opened: Opened, lines: &mut Lines) -> u8 {
+    let trace = opened.trace;
+    let found = query
+        .ask
+        .time
+        .and_then(|time| seek::seek_time(trace, time).ok());
+    if let Some(
+        SeekTime {
+            offset: Some(offset),
+            halvings,
+        },
+    ) = found
+    {
+        info::put_found(lines, trace, offset, halvings);
+        return lines.finish(0);
     }
-    let texts = b"S -\nno record at that time or later\n";
-    let text = facts::line_of(texts, facts::choice(ask.plain));
-    let at = text::put_text(lines, 0, text);
-    out::finish(rt, lines, at, 1)
+    lines.put(b"S -\n", b"no record at that time or later\n", facts::NONE);
+    lines.finish(1)
 }
 
-// The answer of a trace that opens as a cursor.
-fn answered(
-    rt: &HostRuntime,
-    path: &[u8],
-    kinds: &[u8; 256],
-    s: &[u8],
-    ask: Ask,
-    lines: &mut [u8],
-) -> u8
-    requires { (header_size ≤ length s.now) × (length s.now ≤ trace_limit) }
-{
-    if ask.command == args::LIST {
-        return list::list(rt, path, kinds, s, ask, lines);
-    }
-    if ask.command == args::CHECK {
-        return check(rt, path, kinds, s, ask, lines);
-    }
-    if ask.command == args::SEEK {
-        return sought(rt, kinds, s, ask, lines);
-    }
-    info::info(rt, kinds, s, ask, lines)
-}
-
-// The answer, and its status: 0 where it is good, 1 where the trace is broken or nothing is found, 2 on a refusal.
-pub fn answer(rt: &HostRuntime, path: &[u8], kinds: &[u8; 256], s: &[u8], ask: Ask) -> u8 {
+// The answer, and its status: 0 where it is good, 1 where the trace is broken or nothing is found; it may be a refusal.
+pub fn answer(query: Query, trace: Trace) -> Result<u8, Refused> {
     let mut room = io::large_buffer();
-    if ask.command == args::RECORDS {
-        return records::records(rt, path, kinds, s, ask, &mut room);
+    let out = Out {
+        bytes: &mut room,
+        at: 0,
+    };
+    let mut lines = Lines {
+        rt: query.rt,
+        out,
+        plain: query.ask.plain,
+    };
+    match query.ask.question {
+        Question::List => Ok(list::list(query, open(query, trace)?, &mut lines)),
+        Question::Check => check(query, open(query, trace)?, &mut lines),
+        Question::Info => Ok(info::info(open(query, trace)?, &mut lines)),
+        Question::Seek => Ok(sought(query, open(query, trace)?, &mut lines)),
+        Question::Records => records::records(query, trace, &mut lines),
     }
-    if !is_open(rt, path, s, ask.version) {
-        return 2;
-    }
-    answered(rt, path, kinds, s, ask, &mut room)
 }

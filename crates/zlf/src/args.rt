@@ -1,336 +1,261 @@
 // The words of the call: the command, the file, and where each option's value stands among the arguments.
-ghost use Rattle.std.specs.Prelude.{◌≤◌, length};
-
+use crate::refuse::Refused;
 use crate::{facts, refuse};
 use std::env::FillError;
 use std::rt::Env;
 
-// The commands. Another word, or none, is 0.
-pub const HELP: u8 = 1;
+// What a trace is asked.
+#[derive(Clone, Copy, Debug, PartialEq, Eq)]
+pub enum Question {
+    List,
+    Check,
+    Info,
+    Seek,
+    Records,
+}
 
-pub const LIST: u8 = 2;
+// The commands.
+#[derive(Clone, Copy, Debug, PartialEq, Eq)]
+pub enum Command {
+    Help,
+    Ask(Question),
+    Speeds,
+}
 
-pub const CHECK: u8 = 3;
+impl Command {
+    // The command that a word names.
+    pub fn named(word: &[u8]) -> Option<Command> {
+        match word {
+            b"help" | b"--help" => Some(Command::Help),
+            b"list" => Some(Command::Ask(Question::List)),
+            b"check" => Some(Command::Ask(Question::Check)),
+            b"info" => Some(Command::Ask(Question::Info)),
+            b"seek" => Some(Command::Ask(Question::Seek)),
+            b"records" => Some(Command::Ask(Question::Records)),
+            b"speeds" => Some(Command::Speeds),
+            _ => None,
+        }
+    }
+}
 
-pub const INFO: u8 = 4;
+// The options that take a value. `--plain`, which every command has, takes none.
+#[derive(Clone, Copy, Debug, PartialEq, Eq)]
+enum Choice {
+    From,
+    At,
+    Count,
+    Pages,
+    Kinds,
+    Version,
+}
 
-pub const SEEK: u8 = 5;
+impl Choice {
+    // The option that a word names.
+    fn named(word: &[u8]) -> Option<Choice> {
+        match word {
+            b"--from" => Some(Choice::From),
+            b"--at" => Some(Choice::At),
+            b"--count" => Some(Choice::Count),
+            b"--pages" => Some(Choice::Pages),
+            b"--kinds" => Some(Choice::Kinds),
+            b"--version" => Some(Choice::Version),
+            _ => None,
+        }
+    }
 
-pub const RECORDS: u8 = 6;
+    // Whether a command takes it.
+    fn is_of(self, command: Command) -> bool {
+        match self {
+            Choice::From | Choice::Count => {
+                matches!(command, Command::Ask(Question::List | Question::Records))
+            }
+            Choice::At | Choice::Pages => command == Command::Ask(Question::List),
+            Choice::Kinds | Choice::Version => command != Command::Speeds,
+        }
+    }
+}
 
-pub const SPEEDS: u8 = 7;
-
-// The options. Another word is 0.
-const FROM: u8 = 1;
-
-const AT: u8 = 2;
-
-const COUNT: u8 = 3;
-
-const PAGES: u8 = 4;
-
-const KINDS: u8 = 5;
-
-const VERSION: u8 = 6;
-
-const PLAIN: u8 = 7;
-
-// A call: each number but `command` and `taking` is the place of an argument, 0 where there is none. One that is refused has been told why.
+// A call: the places of its words among the arguments.
 #[derive(Clone, Copy)]
 pub struct Call {
-    pub command: u8,
+    pub command: Command,
     pub plain: bool,
-    pub file: usize,
-    pub operand: usize,
-    pub from: usize,
-    pub at: usize,
-    pub count: usize,
-    pub pages: usize,
-    pub kinds: usize,
-    pub version: usize,
+    pub file: Option<usize>,
+    pub operand: Option<usize>,
+    pub from: Option<usize>,
+    pub at: Option<usize>,
+    pub count: Option<usize>,
+    pub pages: Option<usize>,
+    pub kinds: Option<usize>,
+    pub version: Option<usize>,
     // The option whose value comes next.
-    pub taking: u8,
-    pub refused: bool,
+    taking: Option<Choice>,
 }
 
-// The commands that walk over a trace.
-fn walk_command(word: &[u8]) -> u8 {
-    if check::same(word, b"list") {
-        return LIST;
+impl Call {
+    // A call of a command, with no word more.
+    fn of(command: Command) -> Call {
+        Call {
+            command,
+            plain: false,
+            file: None,
+            operand: None,
+            from: None,
+            at: None,
+            count: None,
+            pages: None,
+            kinds: None,
+            version: None,
+            taking: None,
+        }
     }
-    if check::same(word, b"check") {
-        return CHECK;
-    }
-    if check::same(word, b"info") {
-        return INFO;
-    }
-    if check::same(word, b"records") {
-        return RECORDS;
-    }
-    0
-}
 
-pub fn command_of(word: &[u8]) -> u8 {
-    if check::same(word, b"seek") {
-        return SEEK;
+    // The value of an option is at a place.
+    fn with_value(self, choice: Choice, i: usize) -> Call {
+        let place = Some(i);
+        let call = Call {
+            taking: None,
+            ..self
+        };
+        match choice {
+            Choice::From => Call {
+                from: place,
+                ..call
+            },
+            Choice::At => Call { at: place, ..call },
+            Choice::Count => Call {
+                count: place,
+                ..call
+            },
+            Choice::Pages => Call {
+                pages: place,
+                ..call
+            },
+            Choice::Kinds => Call {
+                kinds: place,
+                ..call
+            },
+            Choice::Version => Call {
+                version: place,
+                ..call
+            },
+        }
     }
-    if check::same(word, b"help") | check::same(word, b"--help") {
-        return HELP;
-    }
-    if check::same(word, b"speeds") {
-        return SPEEDS;
-    }
-    walk_command(word)
-}
 
-// The options that say which part of a trace.
-fn part_option(word: &[u8]) -> u8 {
-    if check::same(word, b"--from") {
-        return FROM;
+    // The call with an option.
+    fn with_option(self, rt: &HostRuntime, word: &[u8]) -> Result<Call, Refused> {
+        if matches!(word, b"--plain") {
+            return Ok(Call {
+                plain: true,
+                ..self
+            });
+        }
+        match Choice::named(word) {
+            Some(choice) if choice.is_of(self.command) => Ok(Call {
+                taking: Some(choice),
+                ..self
+            }),
+            _ => Err(refuse::word(
+                rt,
+                word,
+                b"' is no option of this command (zlf help COMMAND lists them)\n",
+                facts::NONE,
+            )),
+        }
     }
-    if check::same(word, b"--at") {
-        return AT;
-    }
-    if check::same(word, b"--count") {
-        return COUNT;
-    }
-    if check::same(word, b"--pages") {
-        return PAGES;
-    }
-    0
-}
 
-// The other options; `takes` says which command has them.
-fn common_option(word: &[u8]) -> u8 {
-    if check::same(word, b"--kinds") {
-        return KINDS;
-    }
-    if check::same(word, b"--version") {
-        return VERSION;
-    }
-    if check::same(word, b"--plain") {
-        return PLAIN;
-    }
-    0
-}
-
-fn option_of(word: &[u8]) -> u8 {
-    let part = part_option(word);
-    if part == 0 { common_option(word) } else { part }
-}
-
-// Whether a command takes an option.
-fn takes(command: u8, option: u8) -> bool {
-    if (option == FROM) | (option == COUNT) {
-        return (command == LIST) | (command == RECORDS);
-    }
-    if (option == AT) | (option == PAGES) {
-        return command == LIST;
-    }
-    if (option == KINDS) | (option == VERSION) {
-        return command != SPEEDS;
-    }
-    option == PLAIN
-}
-
-// Whether a word is meant as an option. A negative number is none.
-fn is_option(word: &[u8]) -> bool {
-    (layout::u8_at(word, 0) == b'-') & (layout::u8_at(word, 1) == b'-')
-}
-
-fn refused(c: Call) -> Call {
-    let mut d = c;
-    d.refused = true;
-    d
-}
-
-// The value of an option is at a place.
-fn valued(c: Call, i: usize) -> Call {
-    let mut d = c;
-    d.taking = 0;
-    if c.taking == FROM {
-        d.from = i;
-    }
-    if c.taking == AT {
-        d.at = i;
-    }
-    if c.taking == COUNT {
-        d.count = i;
-    }
-    if c.taking == PAGES {
-        d.pages = i;
-    }
-    if c.taking == KINDS {
-        d.kinds = i;
-    }
-    if c.taking == VERSION {
-        d.version = i;
-    }
-    d
-}
-
-// An option is at a place.
-fn optioned(rt: &HostRuntime, c: Call, word: &[u8]) -> Call {
-    let option = option_of(word);
-    if !takes(c.command, option) {
-        refuse::word(
+    // A word that is no option is at a place: the file first, and then what `check` and `seek` take. `speeds` takes none.
+    fn with_name(self, rt: &HostRuntime, word: &[u8], i: usize) -> Result<Call, Refused> {
+        if self.file.is_none() && self.command != Command::Speeds {
+            return Ok(Call {
+                file: Some(i),
+                ..self
+            });
+        }
+        let takes_more = matches!(self.command, Command::Ask(Question::Check | Question::Seek));
+        if self.operand.is_none() && takes_more {
+            return Ok(Call {
+                operand: Some(i),
+                ..self
+            });
+        }
+        Err(refuse::word(
             rt,
             word,
-            b"' is no option of this command (zlf help COMMAND lists them)\n",
-            facts::of(0, 0, 0),
-        );
-        return refused(c);
+            b"' is one word too many (zlf help COMMAND)\n",
+            facts::NONE,
+        ))
     }
-    let mut d = c;
-    if option == PLAIN {
-        d.plain = true;
-        return d;
+
+    // The call with the argument at a place. A negative number is no option.
+    fn with_argument(self, rt: &HostRuntime, word: &[u8], i: usize) -> Result<Call, Refused> {
+        if let Some(choice) = self.taking {
+            return Ok(self.with_value(choice, i));
+        }
+        if word.starts_with(b"--") {
+            return self.with_option(rt, word);
+        }
+        self.with_name(rt, word, i)
     }
-    d.taking = option;
-    d
+
+    // What the call lacks.
+    fn lack(self) -> Option<&'static [u8]> {
+        if self.taking.is_some() {
+            return Some(b"the last option lacks its value\n");
+        }
+        match self.command {
+            Command::Help | Command::Speeds => None,
+            Command::Ask(_) if self.file.is_none() => Some(b"which file? (zlf help COMMAND)\n"),
+            Command::Ask(Question::Seek) if self.operand.is_none() => {
+                Some(b"which time? (zlf seek FILE TIME)\n")
+            }
+            Command::Ask(_) if self.from.is_some() && self.at.is_some() => {
+                Some(b"--from and --at exclude each other\n")
+            }
+            Command::Ask(_) => None,
+        }
+    }
 }
 
-// A word that is no option is at a place: the file first, and then what `check` and `seek` take. `speeds` takes none.
-fn named(rt: &HostRuntime, c: Call, word: &[u8], i: usize) -> Call {
-    let mut d = c;
-    if (c.file == 0) & (c.command != SPEEDS) {
-        d.file = i;
-        return d;
-    }
-    if ((c.command == CHECK) | (c.command == SEEK)) & (c.operand == 0) {
-        d.operand = i;
-        return d;
-    }
-    refuse::word(
-        rt,
-        word,
-        b"' is one word too many (zlf help COMMAND)\n",
-        facts::of(0, 0, 0),
-    );
-    refused(c)
-}
-
-// Puts the argument at a place at the start of buf, and gives its length, or 0 where it is missing or too long.
-pub fn argument(rt: &HostRuntime, i: usize, buf: &mut [u8]) -> usize
-    ensures { result ≤ length buf.new }
-{
-    rt.arg(i, buf).unwrap_or(0)
-}
-
-// The call with the argument at a place taken in.
-fn with_argument(rt: &HostRuntime, c: Call, i: usize) -> Call {
-    if c.refused {
-        return c;
-    }
-    let mut room = io::buffer();
-    let Ok(n) = rt.arg(i, &mut room) else {
-        refuse::call(rt, b"an argument is over 4,096 bytes long\n");
-        return refused(c);
+// The argument at a place, put at the start of a room: no bytes where there is none, or where it is too long.
+pub fn argument<'a>(rt: &HostRuntime, place: Option<usize>, room: &'a mut [u8]) -> &'a [u8] {
+    let n = match place {
+        Some(i) => rt.arg(i, room).unwrap_or(0),
+        None => 0,
     };
-    let word = &room[..n];
-    if c.taking != 0 {
-        return valued(c, i);
-    }
-    if is_option(word) {
-        return optioned(rt, c, word);
-    }
-    named(rt, c, word, i)
+    &room[..n]
 }
 
-// The command that the first argument names; it says where there is none.
-fn first(rt: &HostRuntime) -> u8 {
+// The command that the first argument names.
+fn first(rt: &HostRuntime) -> Result<Command, Refused> {
     let mut room = io::buffer();
-    let n = argument(rt, 1, &mut room);
-    let word = &room[..n];
-    let command = command_of(word);
-    if command == 0 {
-        refuse::word(
+    let word = argument(rt, Some(1), &mut room);
+    match Command::named(word) {
+        Some(command) => Ok(command),
+        None => Err(refuse::word(
             rt,
             word,
             b"' is no command (zlf help lists them)\n",
-            facts::of(0, 0, 0),
-        );
+            facts::NONE,
+        )),
     }
-    command
-}
-
-fn empty(command: u8) -> Call {
-    Call {
-        command,
-        plain: false,
-        file: 0,
-        operand: 0,
-        from: 0,
-        at: 0,
-        count: 0,
-        pages: 0,
-        kinds: 0,
-        version: 0,
-        taking: 0,
-        refused: command == 0,
-    }
-}
-
-// What a call lacks, as the number of a line in `completed`.
-fn lacking(c: Call) -> usize {
-    if c.taking != 0 {
-        return 1;
-    }
-    if (c.command == HELP) | (c.command == SPEEDS) {
-        return 0;
-    }
-    if c.file == 0 {
-        return 2;
-    }
-    if (c.command == SEEK) & (c.operand == 0) {
-        return 3;
-    }
-    if (c.from != 0) & (c.at != 0) {
-        return 4;
-    }
-    0
-}
-
-// The call, refused where it lacks something.
-fn completed(rt: &HostRuntime, c: Call) -> Call {
-    let lack = lacking(c);
-    if c.refused | (lack == 0) {
-        return c;
-    }
-    let texts = b"
-the last option lacks its value
-which file? (zlf help COMMAND)
-which time? (zlf seek FILE TIME)
---from and --at exclude each other
-";
-    refuse::call(rt, facts::line_of(texts, lack));
-    refused(c)
-}
-
-// Whether there is an argument at a place.
-fn is_there(rt: &HostRuntime, i: usize) -> bool {
-    let mut room = [0u8; 1];
-    !matches!(rt.arg(i, &mut room), Err(FillError::NotPresent))
-}
-
-// How many arguments there are, the program's own name among them.
-fn arguments(rt: &HostRuntime) -> usize {
-    for i in 0..usize::MAX {
-        if !is_there(rt, i) {
-            return i;
-        }
-    }
-    usize::MAX
 }
 
 // Takes in the arguments.
-pub fn given(rt: &HostRuntime) -> Call {
-    let count = arguments(rt);
-    let mut c = empty(first(rt));
-    let mut i: usize = 2;
-    while i < count {
-        c = with_argument(rt, c, i);
-        i += 1;
+pub fn given(rt: &HostRuntime) -> Result<Call, Refused> {
+    let mut call = Call::of(first(rt)?);
+    for i in 2..usize::MAX {
+        let mut room = io::buffer();
+        match rt.arg(i, &mut room) {
+            Ok(n) => call = call.with_argument(rt, &room[..n], i)?,
+            Err(FillError::NotPresent) => break,
+            Err(FillError::TooLong) => {
+                return Err(refuse::call(rt, b"an argument is over 4,096 bytes long\n"));
+            }
+        }
     }
-    completed(rt, c)
+    match call.lack() {
+        Some(text) => Err(refuse::call(rt, text)),
+        None => Ok(call),
+    }
 }

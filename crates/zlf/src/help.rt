@@ -1,15 +1,10 @@
 // How `zlf` is called.
+use crate::args::{Command, Question};
+use crate::refuse::Refused;
 use crate::{args, facts, out, refuse};
 
-// Writes a page.
-fn told(rt: &HostRuntime, page: &[u8]) -> u8 {
-    out::finish(rt, page, page.len(), 0)
-}
-
-fn general(rt: &HostRuntime) -> u8 {
-    told(
-        rt,
-        b"zlf reads ZLF traces of up to 1 GiB, and marks each page as unbroken or broken.
+const GENERAL: &[u8] =
+    b"zlf reads ZLF traces of up to 1 GiB, and marks each page as unbroken or broken.
 
   zlf list FILE [--from PLACE | --at TIME] [--count N] [--pages N]   pages of frames, each with its edges and its mark
   zlf check FILE [PLACE]                                             the seam check: unbroken to the end, or where it breaks
@@ -26,14 +21,9 @@ and each that reads a FILE
   --kinds FILE     another kind table: 256 bytes, one for each end byte
   --version N      another version than 104
 It ends with 0 where the answer is good, 1 where the trace is broken or nothing is found, 2 on a refusal or a bad call.
-",
-    )
-}
+";
 
-fn on_list(rt: &HostRuntime) -> u8 {
-    told(
-        rt,
-        b"zlf list FILE [--from PLACE | --at TIME] [--count N] [--pages N]
+const LIST: &[u8] = b"zlf list FILE [--from PLACE | --at TIME] [--count N] [--pages N]
 
 Pages of frames. The first page starts at the first record boundary from PLACE on (2048), or at the first record at TIME or later.
   --count N   a page takes whole records until it has N frames, 1 to 500 (64). A page of more than 600 frames is refused (7).
@@ -46,66 +36,41 @@ mark: what the seam check says from the page's start on. The status is 1 where a
 With --plain: F record position milliseconds gap R|T region channel speed RSSI beams MPDU-place MPDU-length kind MPDU
               P start frames next-place|-
               U place records, or B place break records
-",
-    )
-}
+";
 
-fn on_check(rt: &HostRuntime) -> u8 {
-    told(
-        rt,
-        b"zlf check FILE [PLACE]
+const CHECK: &[u8] = b"zlf check FILE [PLACE]
 
 Says whether valid records follow one another from PLACE (2048) to the last byte, and how many; or the first place without one.
 
 With --plain: U place records, or B place break records
-",
-    )
-}
+";
 
-fn on_info(rt: &HostRuntime) -> u8 {
-    told(
-        rt,
-        b"zlf info FILE
+const INFO: &[u8] = b"zlf info FILE
 
 Size, version, the header's sum as it is stored and as it is computed, the times of the first and the last record, records and frames by
 kind, and what the seam check says from 2048 on. Where the trace is broken, records and frames are those before the break.
 
 With --plain: size N / version N / sum STORED COMPUTED / span FIRST LAST or span - / kind K RECORDS FRAMES, for the kinds 1 to 4 /
               U place records, or B place break records
-",
-    )
-}
+";
 
-fn on_seek(rt: &HostRuntime) -> u8 {
-    told(
-        rt,
-        b"zlf seek FILE TIME
+const SEEK: &[u8] = b"zlf seek FILE TIME
 
 The first record that is not earlier than TIME, found by halving. The status is 1 where there is none.
 
 With --plain: S place milliseconds halvings, or S -
-",
-    )
-}
+";
 
-fn on_records(rt: &HostRuntime) -> u8 {
-    told(
-        rt,
-        b"zlf records FILE [--from PLACE] [--count N]
+const RECORDS: &[u8] = b"zlf records FILE [--from PLACE] [--count N]
 
 Records as the sequential reader gives them, from PLACE (2048) on, N of them (64, 1 to 500 at once). It checks the header's sum, takes
 unknown kinds and records without a payload, and does not search: PLACE has to be a record's. A line has the record's place, its time,
 in or out, its session, its end byte (EB), the kind that this stands for, and the place and the length of its payload.
 
 With --plain: D place ticks milliseconds outgoing session end-byte kind payload-place payload-length
-",
-    )
-}
+";
 
-fn on_speeds(rt: &HostRuntime) -> u8 {
-    told(
-        rt,
-        b"zlf speeds
+const SPEEDS: &[u8] = b"zlf speeds
 
 The bit rate of a PTI frame by its region, 0 to 31 down, and its channel, 0 to 3 across, to be held beside the wall chart: a PTI record does
 not carry it. LR is Long Range. 9.6k also stands where the wall chart is empty, and is the answer for every other region and channel.
@@ -113,39 +78,35 @@ Names are those that zlf list shows for PTI records, ? where there is none. A PT
 above 15.
 
 With --plain: C region speed speed speed speed, for the channels 0 to 3: 0 is 9.6k, 1 is 40k, 2 is 100k, 3 is Long Range
-",
-    )
-}
+";
 
-// Writes the page on a command that an argument names, and gives the status.
-fn page(rt: &HostRuntime, command: u8) -> Option<u8> {
+// The page on a command.
+fn page(command: Command) -> Option<&'static [u8]> {
     match command {
-        args::LIST => Some(on_list(rt)),
-        args::CHECK => Some(on_check(rt)),
-        args::INFO => Some(on_info(rt)),
-        args::SEEK => Some(on_seek(rt)),
-        args::RECORDS => Some(on_records(rt)),
-        args::SPEEDS => Some(on_speeds(rt)),
-        _ => None,
+        Command::Help => None,
+        Command::Ask(Question::List) => Some(LIST),
+        Command::Ask(Question::Check) => Some(CHECK),
+        Command::Ask(Question::Info) => Some(INFO),
+        Command::Ask(Question::Seek) => Some(SEEK),
+        Command::Ask(Question::Records) => Some(RECORDS),
+        Command::Speeds => Some(SPEEDS),
     }
 }
 
 // The page on the command that the argument at a place names, or on all of them.
-pub fn help(rt: &HostRuntime, word: usize) -> u8 {
-    if word == 0 {
-        return general(rt);
+pub fn help(rt: &HostRuntime, place: Option<usize>) -> Result<u8, Refused> {
+    if place.is_none() {
+        return Ok(out::finish(rt, GENERAL, 0));
     }
     let mut room = io::buffer();
-    let n = args::argument(rt, word, &mut room);
-    let name = &room[..n];
-    if let Some(status) = page(rt, args::command_of(name)) {
-        return status;
+    let name = args::argument(rt, place, &mut room);
+    match Command::named(name).and_then(page) {
+        Some(text) => Ok(out::finish(rt, text, 0)),
+        None => Err(refuse::word(
+            rt,
+            name,
+            b"' is no command with a page of its own (zlf help lists them)\n",
+            facts::NONE,
+        )),
     }
-    refuse::word(
-        rt,
-        name,
-        b"' is no command with a page of its own (zlf help lists them)\n",
-        facts::of(0, 0, 0),
-    );
-    2
 }

@@ -1,215 +1,145 @@
 // What a trace holds, found in one walk over its records; and the record that a seek found.
-ghost use Rattle.std.specs.Prelude.{◌≡◌, ℕ, ◌+◌, ◌≤◌, ◌<◌, length, get_or, set};
-ghost use Rattle.layout.specs.Layout.{header_size, trace_limit};
+ghost use Rattle.std.specs.Prelude.{◌≡◌, ℕ, get_or, Ok};
+ghost use Rattle.layout.specs.Layout.{header_size};
 ghost use Rattle.record.specs.Record.{plausible};
 ghost use Rattle.seam.specs.Seam.{seam_at, told_seam};
-ghost use Rattle.zlf.specs.Totals.{records_of, frames_of};
+ghost use Rattle.zlf.specs.Totals.{nothing, count_of};
 
-use crate::asked::Ask;
+use crate::answer::Opened;
+use crate::facts::Facts;
+use crate::out::Lines;
 use crate::{facts, list, out};
-use layout::{RECORD_HEADER, ZLF_HEADER_SIZE};
-use record::Record;
+use layout::{OTHER, PTI, Readable, Trace, TraceTooLong, ZLF_HEADER_SIZE};
+use reader::HEADER_CRC_OFFSET;
 use seam::Seam;
 use span::Span;
 
-// The bytes that the header sum is of.
-const SUMMED: usize = 2046;
+// The records of a kind, and their frames.
+#[derive(Clone, Copy)]
+struct Count {
+    records: u64,
+    frames: u64,
+}
 
-// Records and frames by kind, and what the seam check says.
+// What the seam check says, and records and frames by kind.
 #[derive(Clone, Copy)]
 struct Totals {
-    pub mark: Seam,
-    pub records: [u64; 5],
-    pub frames: [u64; 5],
-}
-
-// One record more of a kind, with its frames.
-fn counted(t: Totals, kind: u8, frames: u64) -> Totals
-    requires { (kind < 5) × (get_or t.records kind 0 + 1 < 18446744073709551616) × (get_or t.frames kind 0 + frames < 18446744073709551616) }
-    ensures { (result.records ≡ set t.records kind (get_or t.records kind 0 + 1)) × (result.frames ≡ set t.frames kind (get_or t.frames kind 0 + frames)) }
-{
-    let k = kind as usize;
-    let mut d = t;
-    d.records[k] = d.records[k] + 1;
-    d.frames[k] = d.frames[k] + frames;
-    d
-}
-
-fn with_mark(t: Totals, mark: Seam) -> Totals
-    ensures { (result.mark ≡ mark) × (result.records ≡ t.records) × (result.frames ≡ t.frames) }
-{
-    let records = t.records;
-    let frames = t.frames;
-    Totals {
-        mark,
-        records,
-        frames,
-    }
+    mark: Seam,
+    counts: [Count; 5],
 }
 
 // Walks the records from the header's end on, up to the last byte or to the first place without a valid record.
-fn walked(kinds: &[u8; 256], s: &[u8]) -> Totals
-    requires { (header_size ≤ length s.now) × (length s.now ≤ trace_limit) }
-    ensures { (told_seam result.mark ≡ seam_at plausible kinds.now s.now header_size)
-        × ((k : ℕ) → (get_or result.records k 0 ≡ records_of kinds.now s.now k header_size)
-        × (get_or result.frames k 0 ≡ frames_of kinds.now s.now k header_size)) }
+fn walked(opened: Opened) -> Totals
+    ensures mark { told_seam (Ok result.mark) ≡ seam_at plausible opened.entry.trace.kinds.now opened.entry.trace.bytes.now header_size }
+    ensures counts { (k : ℕ) → get_or result.counts k nothing ≡ count_of opened.entry.trace.kinds.now opened.entry.trace.bytes.now k }
 {
-    let mut t = Totals {
-        mark: Seam::PlaceOutside,
-        records: [0; 5],
-        frames: [0; 5],
+    let trace = Readable {
+        kinds: opened.trace.kinds,
+        bytes: opened.trace.bytes,
     };
+    let mut counts = [Count {
+        records: 0,
+        frames: 0,
+    }; 5];
     let mut at = ZLF_HEADER_SIZE;
-    let mut n: usize = 0;
-    while at < s.len() {
-        let Record::Valid { header } = record::read_record(kinds, s, at) else {
-            return with_mark(
-                t,
-                Seam::Broken {
-                    place: at,
-                    records: n,
-                },
-            );
+    let mut records = 0;
+    loop {
+        let Some(found) = steps::valid_record(trace, at) else {
+            // No record begins here: the trace has ended, or is broken.
+            if at < trace.bytes.len() {
+                let mark = Seam::Broken { place: at, records };
+                return Totals { mark, counts };
+            }
+            let mark = Seam::Unbroken { records };
+            return Totals { mark, counts };
         };
-        let first = at + RECORD_HEADER;
-        let end = first + header.payload_len;
-        let payload = &s[first..end];
-        let frames = rows::frame_count(payload, header.kind, header.is_outcome);
-        t = counted(t, header.kind, frames as u64);
+        let header = found.header;
+        let frames = rows::frame_count(found.payload, header.kind, header.is_outcome);
+        let kind = usize::from(header.kind);
+        counts[kind].records += 1;
+        counts[kind].frames += frames as u64;
         at = header.next_offset;
-        n += 1;
+        records += 1;
     }
-    with_mark(t, Seam::Unbroken { records: n })
-}
-
-fn sum_of(s: &[u8]) -> u16 {
-    checksum::header_sum(out::first(s, SUMMED))
 }
 
 // Size and version.
-fn put_head(lines: &mut [u8], at: usize, s: &[u8], plain: bool) -> usize {
-    let f = facts::of(s.len() as u64, layout::u32_at(s, 0) as u64, 0);
-    if plain {
-        return facts::put_line(lines, at, b"size %\nversion %\n", f);
-    }
-    facts::put_line(lines, at, b"size in bytes   %\nversion         %\n", f)
+fn put_head(lines: &mut Lines, s: &[u8]) {
+    let version = layout::u32_at(s, 0);
+    lines.put(
+        b"size %\nversion %\n",
+        b"size in bytes   %\nversion         %\n",
+        Facts::of(s.len() as u64, u64::from(version), 0),
+    );
 }
 
-// Which of three lines the sums take.
-fn sum_text(same: bool, plain: bool) -> usize {
-    if same {
-        return facts::choice(plain);
+// The header's sum, as it is stored and as it is computed.
+fn put_sums(lines: &mut Lines, stored: u16, computed: u16) {
+    let f = Facts::of(u64::from(stored), u64::from(computed), 0);
+    if stored == computed {
+        lines.put(b"sum # #\n", b"header sum      #, as computed\n", f);
+    } else {
+        lines.put(b"sum # #\n", b"header sum      #, WRONG: computed #\n", f);
     }
-    2 * facts::choice(plain)
-}
-
-// The header's sum, as it is stored and as it is.
-fn put_sums(lines: &mut [u8], at: usize, s: &[u8], plain: bool) -> usize {
-    let stored = layout::u16_at(s, SUMMED);
-    let found = sum_of(s);
-    let texts = b"sum # #
-header sum      #, as computed
-header sum      #, WRONG: computed #
-";
-    let text = facts::line_of(texts, sum_text(stored == found, plain));
-    facts::put_line(lines, at, text, facts::of(stored as u64, found as u64, 0))
 }
 
 // The times of the first and the last record.
-fn put_span(lines: &mut [u8], at: usize, r: Span, plain: bool) -> usize {
-    let Span::Times { first, last } = r else {
-        let texts = b"span -\nfirst record    none\n";
-        let text = facts::line_of(texts, facts::choice(plain));
-        return text::put_text(lines, at, text);
-    };
-    put_times(lines, at, first, last, plain)
-}
-
-fn put_times(lines: &mut [u8], at: usize, first: u64, last: u64, plain: bool) -> usize {
-    let f = facts::of(first, last, 0);
-    if plain {
-        return facts::put_line(lines, at, b"span % %\n", f);
+fn put_span(lines: &mut Lines, span: Result<Option<Span>, TraceTooLong>) {
+    match span {
+        Ok(Some(Span { first, last })) => lines.put(
+            b"span % %\n",
+            b"first record    @\nlast record     @\n",
+            Facts::of(first, last, 0),
+        ),
+        _ => lines.put(b"span -\n", b"first record    none\n", facts::NONE),
     }
-    facts::put_line(lines, at, b"first record    @\nlast record     @\n", f)
 }
 
 // Records and frames of a kind; for a person, where there are any.
-fn put_count(
-    lines: &mut [u8],
-    at: usize,
-    kind: u8,
-    records: u64,
-    frames: u64,
-    plain: bool,
-) -> usize {
-    if plain {
-        return facts::put_line(
-            lines,
-            at,
-            b"kind % % %\n",
-            facts::of(kind as u64, records, frames),
-        );
+fn put_count(lines: &mut Lines, kind: u8, count: Count) {
+    if lines.plain {
+        let f = Facts::of(u64::from(kind), count.records, count.frames);
+        facts::put_line(&mut lines.out, b"kind % % %\n", f);
+    } else if count.records != 0 {
+        show::count_line(&mut lines.out, kind, count.records, count.frames);
     }
-    if records == 0 {
-        return at;
-    }
-    show::count_line(lines, at, kind, records, frames)
 }
 
 // The counts of the four kinds that a valid record has.
-fn put_counts(lines: &mut [u8], at: usize, t: Totals, plain: bool) -> usize {
-    let mut next = facts::put_heading(
-        lines,
-        at,
-        b"kind                 records      frames\n",
-        plain,
-    );
-    let mut kind: u8 = 1;
-    while kind < 5 {
-        let records = t.records[kind as usize];
-        let frames = t.frames[kind as usize];
-        next = put_count(lines, next, kind, records, frames, plain);
-        kind += 1;
+fn put_counts(lines: &mut Lines, counts: [Count; 5]) {
+    lines.put_heading(b"kind                 records      frames\n");
+    for kind in PTI..=OTHER {
+        put_count(lines, kind, counts[usize::from(kind)]);
     }
-    next
 }
 
-// What a trace holds.
-pub fn info(rt: &HostRuntime, kinds: &[u8; 256], s: &[u8], ask: Ask, lines: &mut [u8]) -> u8
-    requires { (header_size ≤ length s.now) × (length s.now ≤ trace_limit) }
-{
-    let t = walked(kinds, s);
-    let mark = t.mark;
-    let head = put_head(lines, 0, s, ask.plain);
-    let sums = put_sums(lines, head, s, ask.plain);
-    let span = put_span(lines, sums, span::time_span(kinds, s), ask.plain);
-    let counts = put_counts(lines, span, t, ask.plain);
-    let end = list::put_mark(lines, counts, mark, ZLF_HEADER_SIZE, s.len(), ask.plain);
-    out::finish(rt, lines, end, status_of(s, mark))
-}
-
-// The status: 1 where the header's sum is wrong too.
-fn status_of(s: &[u8], mark: Seam) -> u8 {
-    if layout::u16_at(s, SUMMED) != sum_of(s) {
-        return 1;
-    }
-    list::status_of(mark)
+// What a trace holds. The status is 1 where the header's sum is wrong too.
+pub fn info(opened: Opened, lines: &mut Lines) -> u8 {
+    let s = opened.trace.bytes;
+    let totals = walked(opened);
+    let mark = Ok(totals.mark);
+    let stored = layout::u16_at(s, HEADER_CRC_OFFSET);
+    let computed = checksum::header_sum(out::first(s, HEADER_CRC_OFFSET));
+    put_head(lines, s);
+    put_sums(lines, stored, computed);
+    put_span(lines, span::time_span(opened.trace));
+    put_counts(lines, totals.counts);
+    list::put_mark(lines, mark, ZLF_HEADER_SIZE, s.len());
+    let status = if stored == computed {
+        list::status_of(mark)
+    } else {
+        1
+    };
+    lines.finish(status)
 }
 
 // The record that a seek found.
-pub fn put_found(
-    lines: &mut [u8],
-    kinds: &[u8; 256],
-    s: &[u8],
-    offset: usize,
-    halvings: usize,
-    plain: bool,
-) -> usize {
-    let Record::Valid { header } = record::read_record(kinds, s, offset) else {
-        return 0;
-    };
-    let f = facts::of(offset as u64, header.unix_millis, halvings as u64);
-    let texts = b"S % % %\nrecord at %, of @, found in % halvings\n";
-    let text = facts::line_of(texts, facts::choice(plain));
-    facts::put_line(lines, 0, text, f)
+pub fn put_found(lines: &mut Lines, trace: Trace, offset: usize, halvings: usize) {
+    if let Ok(Some(header)) = record::read_record(trace, offset) {
+        lines.put(
+            b"S % % %\n",
+            b"record at %, of @, found in % halvings\n",
+            Facts::of(offset as u64, header.unix_millis, halvings as u64),
+        );
+    }
 }

@@ -18,35 +18,27 @@ mod records;
 mod refuse;
 mod speeds;
 
-use args::Call;
+use args::{Call, Command, Question};
+use refuse::Refused;
 use std::process::ExitCode;
 
 // What a call without its own words comes to: the trace that it names is read and asked.
-fn traced(rt: &HostRuntime, c: Call) -> u8 {
-    let mut path = io::buffer();
-    let n = args::argument(rt, c.file, &mut path);
-    let name = &path[..n];
-    let ask = asked::asked(rt, c);
-    if ask.refused {
-        return 2;
-    }
-    files::opened(rt, name, c.kinds, ask)
+fn traced(rt: &HostRuntime, call: Call, question: Question) -> Result<u8, Refused> {
+    let mut room = io::buffer();
+    let path = args::argument(rt, call.file, &mut room);
+    let ask = asked::asked(rt, call, question)?;
+    files::opened(rt, path, call.kinds, ask)
 }
 
-fn status(rt: &HostRuntime) -> u8 {
-    let c = args::given(rt);
-    if c.refused {
-        return 2;
+fn status(rt: &HostRuntime) -> Result<u8, Refused> {
+    let call = args::given(rt)?;
+    match call.command {
+        Command::Help => help::help(rt, call.file),
+        Command::Ask(question) => traced(rt, call, question),
+        Command::Speeds => Ok(speeds::speeds(rt, call.plain)),
     }
-    if c.command == args::HELP {
-        return help::help(rt, c.file);
-    }
-    if c.command == args::SPEEDS {
-        return speeds::speeds(rt, c.plain);
-    }
-    traced(rt, c)
 }
 
 fn main(rt: HostRuntime) -> ExitCode {
-    ExitCode::from(status(&rt))
+    ExitCode::from(status(&rt).unwrap_or(2))
 }

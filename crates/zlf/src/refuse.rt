@@ -1,94 +1,110 @@
 // Refusals and bad calls: one plain line on standard error.
 use crate::facts::Facts;
 use crate::{facts, out};
+use layout::Refusal;
 use std::io::{Cursor, Error, Write};
+use text::Out;
 
-// Writes the first bytes of a line.
-fn written(rt: &HostRuntime, line: &[u8], n: usize) {
-    let _ = rt.stderr().write_all(out::first(line, n));
+// A refusal or a bad call, which has been told: the program ends with 2.
+#[derive(Clone, Copy, Debug, PartialEq, Eq)]
+pub struct Refused;
+
+// Writes a line.
+fn told(rt: &HostRuntime, line: &Out) -> Refused {
+    let _ = rt.stderr().write_all(out::first(line.bytes, line.at));
+    Refused
 }
 
 // A line: a text, a name, and a text with its facts.
-fn said(rt: &HostRuntime, before: &[u8], name: &[u8], text: &[u8], f: Facts) {
-    let mut line = [0u8; 8192];
-    let open = text::put_text(&mut line, 0, before);
-    let word = text::put_text(&mut line, open, name);
-    let end = facts::put_line(&mut line, word, text, f);
-    written(rt, &line, end)
+fn said(rt: &HostRuntime, before: &[u8], name: &[u8], text: &[u8], f: Facts) -> Refused {
+    let mut bytes = [0u8; 8192];
+    let mut line = Out {
+        bytes: &mut bytes,
+        at: 0,
+    };
+    line.put_text(before);
+    line.put_text(name);
+    facts::put_line(&mut line, text, f);
+    told(rt, &line)
 }
 
 // A line on a file.
-pub fn file(rt: &HostRuntime, path: &[u8], text: &[u8], f: Facts) {
+pub fn file(rt: &HostRuntime, path: &[u8], text: &[u8], f: Facts) -> Refused {
     said(rt, b"zlf: ", path, text, f)
 }
 
 // A line on a word of the call.
-pub fn word(rt: &HostRuntime, word: &[u8], text: &[u8], f: Facts) {
+pub fn word(rt: &HostRuntime, word: &[u8], text: &[u8], f: Facts) -> Refused {
     said(rt, b"zlf: '", word, text, f)
 }
 
 // A line on the call.
-pub fn call(rt: &HostRuntime, text: &[u8]) {
-    said(rt, b"zlf: ", b"", text, facts::of(0, 0, 0))
+pub fn call(rt: &HostRuntime, text: &[u8]) -> Refused {
+    said(rt, b"zlf: ", b"", text, facts::NONE)
 }
+
+// The refusal of a trace of another version.
+const OTHER_VERSION: u32 = 4;
 
 // 01's refusals by their numbers, 1 to 10.
-pub fn refusal(rt: &HostRuntime, path: &[u8], number: usize, f: Facts) {
-    let texts = b"
-: refusal 1: the file has more than 1073741824 bytes, the longest trace that is read
-: refusal 2: a trace has a header of 2048 bytes, and this file has % bytes
-: refusal 3: the header sum is wrong (zlf info FILE shows it)
-: refusal 4: the trace has version %, which is not the one expected (--version N)
-: refusal 5: the place % is too large
-: refusal 6: the place % is not from 2048 to the trace's length, %
-: refusal 7: the page has more than 600 frames: ask for fewer with --count
-: refusal 8: the record at % has a negative length
-: refusal 9: the trace ends in the properties or the length of the record at %
-: refusal 10: the trace ends in the payload or before the end byte of the record at %
-";
-    file(rt, path, facts::line_of(texts, number), f)
-}
-
-// The fact of a refusal to open a trace: its version, or its size.
-fn opening_fact(s: &[u8], number: usize) -> u64 {
-    if number == 4 {
-        return layout::u32_at(s, 0) as u64;
+fn text_of(number: u32) -> &'static [u8] {
+    match number {
+        1 =>
+            b": refusal 1: the file has more than 1073741824 bytes, the longest trace that is read\n",
+        2 => b": refusal 2: a trace has a header of 2048 bytes, and this file has % bytes\n",
+        3 => b": refusal 3: the header sum is wrong (zlf info FILE shows it)\n",
+        4 => b": refusal 4: the trace has version %, which is not the one expected (--version N)\n",
+        5 => b": refusal 5: the place % is too large\n",
+        6 => b": refusal 6: the place % is not from 2048 to the trace's length, %\n",
+        7 => b": refusal 7: the page has more than 600 frames: ask for fewer with --count\n",
+        8 => b": refusal 8: the record at % has a negative length\n",
+        9 => b": refusal 9: the trace ends in the properties or the length of the record at %\n",
+        10 =>
+            b": refusal 10: the trace ends in the payload or before the end byte of the record at %\n",
+        _ => b"\n",
     }
-    s.len() as u64
 }
 
-// A trace that does not open.
-pub fn opening(rt: &HostRuntime, path: &[u8], number: usize, s: &[u8]) {
-    refusal(rt, path, number, facts::of(opening_fact(s, number), 0, 0))
+// One of 01's refusals.
+pub fn refusal(rt: &HostRuntime, path: &[u8], error: impl Refusal, f: Facts) -> Refused {
+    file(rt, path, text_of(error.number()), f)
+}
+
+// A trace does not open. What is said of it is its version, where that is another one, or else its size.
+pub fn opening(rt: &HostRuntime, path: &[u8], error: impl Refusal, s: &[u8]) -> Refused {
+    let number = error.number();
+    let fact = if number == OTHER_VERSION {
+        u64::from(layout::u32_at(s, 0))
+    } else {
+        s.len() as u64
+    };
+    file(rt, path, text_of(number), Facts::of(fact, 0, 0))
 }
 
 // The words of an error, without the number that std puts after the system's.
-fn put_words(out: &mut [u8], at: usize, e: Error) -> usize {
+fn put_words(out: &mut Out, e: Error) {
     let mut words = Cursor::new([0u8; 256]);
     let _ = write!(words, "{e}");
     let n = words.position() as usize;
     let all = words.into_inner();
     let text = str::from_utf8(out::first(&all, n)).unwrap_or("");
-    match text.split_once(" (os error ") {
-        Some((said, _)) => text::put_text(out, at, said.as_bytes()),
-        None => text::put_text(out, at, text.as_bytes()),
-    }
+    let said = text
+        .split_once(" (os error ")
+        .map_or(text, |(said, _)| said);
+    out.put_text(said.as_bytes());
 }
 
 // The system's own words on a file, as `No such file or directory`.
-pub fn system(rt: &HostRuntime, path: &[u8], e: Error) {
-    let mut line = [0u8; 4200];
-    let open = text::put_text(&mut line, 0, b"zlf: ");
-    let end = text::put_text(&mut line, open, path);
-    failed(rt, &line, end, e);
-}
-
-// The first bytes of a line, and the words of an error.
-fn failed(rt: &HostRuntime, line: &[u8], n: usize, e: Error) {
-    let mut whole = [0u8; 8192];
-    let name = text::put_text(&mut whole, 0, out::first(line, n));
-    let colon = text::put_text(&mut whole, name, b": ");
-    let words = put_words(&mut whole, colon, e);
-    let end = text::put_byte(&mut whole, words, b'\n');
-    written(rt, &whole, end)
+pub fn system(rt: &HostRuntime, path: &[u8], e: Error) -> Refused {
+    let mut bytes = [0u8; 8192];
+    let mut line = Out {
+        bytes: &mut bytes,
+        at: 0,
+    };
+    line.put_text(b"zlf: ");
+    line.put_text(path);
+    line.put_text(b": ");
+    put_words(&mut line, e);
+    line.put_byte(b'\n');
+    told(rt, &line)
 }

@@ -1,50 +1,45 @@
 // The wall chart of speeds: a line for each region, whose numbers are what `speed::speed_for` gives.
-ghost use Rattle.text.specs.Put.{Put};
+ghost use Rattle.text.specs.Put.{Puts};
 ghost use Rattle.zlf.specs.Chart.{region_line, lines_below};
 
-use crate::{facts, out};
+use crate::out::Lines;
+use text::Out;
 
 // How many regions the chart has.
 const REGIONS: u8 = 32;
 
 // The line for a region.
-fn put_region(lines: &mut [u8], at: usize, region: u8, plain: bool) -> usize
-    ensures { Put (region_line plain region) lines.old at lines.new result }
+fn put_region(out: &mut Out, region: u8, plain: bool)
+    ensures { Puts (region_line plain region) out.old out.new }
 {
     if plain {
-        return fields::chart_fields(lines, at, region);
+        fields::chart_fields(out, region);
+    } else {
+        show::chart_line(out, region);
     }
-    show::chart_line(lines, at, region)
 }
 
 // The lines for all of them, from 0 on.
-fn put_regions(lines: &mut [u8], at: usize, plain: bool) -> usize
-    ensures { Put (lines_below plain 32) lines.old at lines.new result }
+fn put_regions(out: &mut Out, plain: bool)
+    ensures { Puts (lines_below plain 32) out.old out.new }
 {
-    let mut next = at;
-    let mut region: u8 = 0;
-    while region < REGIONS {
-        next = put_region(lines, next, region, plain);
-        region += 1;
+    for region in 0..REGIONS {
+        put_region(out, region, plain);
     }
-    next
 }
 
 // The chart.
 pub fn speeds(rt: &HostRuntime, plain: bool) -> u8 {
     let mut room = io::buffer();
-    let top = facts::put_heading(
-        &mut room,
-        0,
-        b"region  name      ch 0  ch 1  ch 2  ch 3\n",
-        plain,
-    );
-    let bottom = put_regions(&mut room, top, plain);
-    let end = facts::put_heading(
-        &mut room,
-        bottom,
+    let out = Out {
+        bytes: &mut room,
+        at: 0,
+    };
+    let mut lines = Lines { rt, out, plain };
+    lines.put_heading(b"region  name      ch 0  ch 1  ch 2  ch 3\n");
+    put_regions(&mut lines.out, plain);
+    lines.put_heading(
         b"9.6k is also the answer where the wall chart is empty, and for every other region and channel\n",
-        plain,
     );
-    out::finish(rt, &room, end, 0)
+    lines.finish(0)
 }

@@ -3,7 +3,9 @@ use Prim.Native.Nat.{ℕ, zero, suc, ◌+◌, ◌-◌, ◌≤◌, ◌<◌, min}
 use borrow.Author.Tests.{lt-ltb, eqb-true, eqb-false}
 use lib.Dec.{eqb}
 use lib.ListN.{length, set, get_or, take, drop, length-drop, drop_of_length-le}
-use lib.Seq.{sets, get_or-drop}
+use lib.Seq.{sets, sets-eq, get_or-drop, drop-drop, length-take-le}
+use borrow.Rule.Slice.PartMut.{put_mid}
+use Rattle.std.proofs.Common.{append_assoc}
 use mathlib.Core.Bool.{true, false, and-false, or-false}
 use mathlib.Core.List.{List, [], ◌∷◌}
 use mathlib.Core.Path.{◌≡◌, refl, sym, ap, ◌∙◌}
@@ -175,6 +177,15 @@ run_parts s l bytes c =
     (λ yes'. goes s l bytes (length s) 0 c l (omega arith) yes' (sym (piece_none s l c.count 0 (omega arith))))
     (λ no'. refused_parts s l c no')
 
+-- what is written into a part is laid there
+mid_sets : (a k : ℕ) (xs ys : List ℕ) → k ≡ length ys → a + length ys ≤ length xs → put_mid a k xs ys ≡ sets xs a ys
+mid_sets a k xs ys e h = rw (e, drop-drop (length ys) a xs) (sym (append_assoc (take a xs) ys (drop (a + length ys) xs)) ∙ sym (sets-eq ys xs a h))
+
 -- what the code lays
-pub laid_by : (s l : List ℕ) (t : CoreRan) (end n : ℕ) → end ≡ held_by t.core t.result → n ≡ min end t.used → sets l (end - n) (take (t.used - (t.used - n)) (drop (t.used - n) s)) ≡ left_by s l t
-laid_by s l t end n h q = let few : t.used - (t.used - n) ≡ n = omega (arith, q) in rw (few, q, h)
+pub laid_by : (s l w : List ℕ) (t : CoreRan) (end n : ℕ) → end ≡ held_by t.core t.result → n ≡ min end t.used → end ≤ length l → t.used ≤ length s → w ≡ take (t.used - (t.used - n)) (drop (t.used - n) s)
+    → put_mid (end - n) (end - (end - n)) l w ≡ left_by s l t
+laid_by s l w t end n h q room in-s e =
+    let few : t.used - (t.used - n) ≡ n = omega (arith, q) in let part : end - (end - n) ≡ n = omega (arith, q) in
+    let last : w ≡ take n (drop (t.used - n) s) = rw few at e in
+    let long : length w ≡ n = rw last (length-take-le n (drop (t.used - n) s) (rw (length-drop (t.used - n) s) (omega (arith, q, in-s)))) in
+    mid_sets (end - n) (end - (end - n)) l w (part ∙ sym long) (omega (arith, long, q, room)) ∙ rw (last, q, h) refl

@@ -1,11 +1,10 @@
 // The parser with its payload, by value: a step, and a run over several bytes.
-ghost use Rattle.std.specs.Prelude.{◌≡◌, ◌+◌, ◌≤◌, ◌<◌, min, length};
-ghost use Rattle.std.proofs.lemmas.List.Edits.{sets};
+ghost use Rattle.std.specs.Prelude.{◌≡◌};
 ghost use Rattle.zniffer.specs.Parse.{zeros, core_of, parser_of, fresh_parser, with_byte, settle, step_of, run_from};
 ghost use Rattle.zniffer.specs.Held.{held_by};
 
 use zniffer_core::{core_step, run_core};
-use zniffer_numbers::{Core, ParserResult};
+use zniffer_numbers::{Core, ParserResult, fresh_core};
 
 // The numbers of `Core`, and the payload so far, of which `count` bytes are there and no others are looked at.
 #[repr(C)]
@@ -58,41 +57,24 @@ fn no_payload() -> [u8; 255]
     [0u8; 255]
 }
 
-pub fn fresh() -> Parser
-    ensures { result ≡ fresh_parser }
-{
-    let payload = no_payload();
-    Parser {
-        state: 0,
-        command_id: 0,
-        length: 0,
-        count: 0,
-        frame_type: 0,
-        timestamp: 0,
-        timestamp_state: false,
-        channel: 0,
-        speed: 0,
-        region: 0,
-        rssi: 0,
-        payload,
-    }
-}
+// A parser's numbers.
+impl From<Parser> for Core {
+    ghost from_gives = { λ p r. r ≡ core_of p };
 
-fn core_of(p: Parser) -> Core
-    ensures { result ≡ core_of p }
-{
-    Core {
-        state: p.state,
-        command_id: p.command_id,
-        length: p.length,
-        count: p.count,
-        frame_type: p.frame_type,
-        timestamp: p.timestamp,
-        timestamp_state: p.timestamp_state,
-        channel: p.channel,
-        speed: p.speed,
-        region: p.region,
-        rssi: p.rssi,
+    fn from(p: Parser) -> Core {
+        Core {
+            state: p.state,
+            command_id: p.command_id,
+            length: p.length,
+            count: p.count,
+            frame_type: p.frame_type,
+            timestamp: p.timestamp,
+            timestamp_state: p.timestamp_state,
+            channel: p.channel,
+            speed: p.speed,
+            region: p.region,
+            rssi: p.rssi,
+        }
     }
 }
 
@@ -115,16 +97,18 @@ fn parser_of(c: Core, payload: [u8; 255]) -> Parser
     }
 }
 
+pub fn fresh() -> Parser
+    ensures { result ≡ fresh_parser }
+{
+    parser_of(fresh_core(), no_payload())
+}
+
 // The payload with one byte more, where a byte of it is awaited.
-fn with_byte(c: Core, payload: [u8; 255], value: u8) -> [u8; 255]
+fn with_byte(c: Core, mut payload: [u8; 255], value: u8) -> [u8; 255]
     ensures { result ≡ with_byte c payload value }
 {
-    let awaited = (c.state == 3) & (c.count < c.length);
-    if awaited {
-        let at = c.count as usize;
-        let mut next = payload;
-        next[at] = value;
-        return next;
+    if c.state == 3 && c.count < c.length {
+        payload[usize::from(c.count)] = value;
     }
     payload
 }
@@ -133,55 +117,31 @@ fn with_byte(c: Core, payload: [u8; 255], value: u8) -> [u8; 255]
 fn settled(c: Core, payload: [u8; 255], r: ParserResult) -> Parsed
     ensures { result ≡ settle c payload r }
 {
-    let none = no_payload();
-    let kept = parser_of(c, payload);
-    let emptied = parser_of(c, none);
-    match r {
-        ParserResult::IncompleteFrame => Parsed {
-            parser: kept,
-            answer: Answer {
-                result: r,
-                payload: none,
-            },
+    let (kept, handed_out) = match r {
+        ParserResult::IncompleteFrame => (payload, no_payload()),
+        ParserResult::InvalidFrame => (no_payload(), no_payload()),
+        ParserResult::ValidCommand { .. } | ParserResult::ValidFrame { .. } => (
+            no_payload(),
+            payload,
+        ),
+    };
+    Parsed {
+        parser: parser_of(c, kept),
+        answer: Answer {
+            result: r,
+            payload: handed_out,
         },
-        ParserResult::InvalidFrame => Parsed {
-            parser: emptied,
-            answer: Answer {
-                result: r,
-                payload: none,
-            },
-        },
-        ParserResult::ValidCommand { id: _, length: _ } => Parsed {
-            parser: emptied,
-            answer: Answer { result: r, payload },
-        },
-        ParserResult::ValidFrame {
-            timestamp: _,
-            channel: _,
-            speed: _,
-            region: _,
-            rssi: _,
-            length: _,
-        } => {
-            Parsed {
-                parser: emptied,
-                answer: Answer { result: r, payload },
-            }
-        }
     }
 }
 
 // One byte, at any parser.
+#[tactic(auto, unfolding(crate::specs::Parse::step_of))]
 pub fn step(p: Parser, value: u8) -> Parsed
     ensures { result ≡ step_of p value }
 {
-    let c = core_of(p);
-    let payload = p.payload;
+    let c = Core::from(p);
     let s = core_step(c, value);
-    let next = s.core;
-    let result = s.result;
-    let filled = with_byte(c, payload, value);
-    settled(next, filled, result)
+    settled(s.core, with_byte(c, p.payload, value), s.result)
 }
 
 // How many bytes of a payload there are after a byte: those so far, or those that the result hands out.
@@ -191,39 +151,8 @@ fn held(c: Core, r: ParserResult) -> u8
     match r {
         ParserResult::IncompleteFrame => c.count,
         ParserResult::InvalidFrame => 0,
-        ParserResult::ValidCommand { id: _, length } => length,
-        ParserResult::ValidFrame {
-            timestamp: _,
-            channel: _,
-            speed: _,
-            region: _,
-            rssi: _,
+        ParserResult::ValidCommand { length, .. } | ParserResult::ValidFrame { length, .. } =>
             length,
-        } => length,
-    }
-}
-
-fn wide(x: u8) -> usize
-    ensures { (result ≡ x) × (result < 256) }
-{
-    x as usize
-}
-
-fn smaller(a: usize, b: usize) -> usize
-    ensures { result ≡ min a b }
-{
-    if a < b { a } else { b }
-}
-
-// Bytes into a payload from a place on.
-fn lay(l: &mut [u8; 255], at: usize, bytes: &[u8])
-    requires { at + length bytes.now ≤ 255 }
-    ensures { l.new ≡ sets l.old at bytes.now }
-{
-    let mut i = 0;
-    while i < bytes.len() {
-        l[at + i] = bytes[i];
-        i += 1;
     }
 }
 
@@ -231,19 +160,14 @@ fn lay(l: &mut [u8; 255], at: usize, bytes: &[u8])
 pub fn run(p: Parser, s: &[u8]) -> Ran
     ensures { result ≡ run_from 0 s.now p }
 {
-    let c = core_of(p);
-    let mut l = p.payload;
-    let t = run_core(c, s);
-    let next = t.core;
-    let result = t.result;
-    let used = t.used;
-    let end = wide(held(next, result));
-    let n = smaller(end, used);
-    let from = used - n;
-    lay(&mut l, end - n, &s[from..used]);
-    let e = settled(next, l, result);
-    let parser = e.parser;
-    let answer = e.answer;
+    let ran = run_core(Core::from(p), s);
+    let used = ran.used;
+    let end = usize::from(held(ran.core, ran.result));
+    let n = end.min(used);
+    let last = &s[used - n..used];
+    let mut payload = p.payload;
+    payload[end - n..end].copy_from_slice(last);
+    let Parsed { parser, answer } = settled(ran.core, payload, ran.result);
     Ran {
         parser,
         out: Used { answer, used },

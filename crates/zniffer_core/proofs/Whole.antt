@@ -4,7 +4,7 @@ use borrow.Author.Tests.{lt-ltb, eq-eqb, eqb-true, eqb-false, leb-true, not-true
 use lib.Dec.{leb, eqb}
 use lib.ListN.{length, drop, get_or, length-drop}
 use lib.Seq.{drop-drop}
-use mathlib.Core.Bool.{Bool, true, false, not, ◌&&◌}
+use mathlib.Core.Bool.{true, false, not, ◌&&◌}
 use mathlib.Core.List.{List}
 use mathlib.Core.Path.{◌≡◌, refl, sym, ap, ◌∙◌}
 use native.Mathlib.Omega.{arith}
@@ -12,13 +12,13 @@ use Rattle.choice.proofs.Choice.{left_true as left, right_true as right, by_choi
 use Rattle.zniffer_numbers.specs.declared.Core.{Core}
 use Rattle.zniffer_numbers.specs.declared.ParserResult.TheVariants.{ValidCommand}
 use Rattle.zniffer_numbers.specs.Numbers.{core, fresh_core, goes_on}
-use Rattle.zniffer_tests.specs.Tests.{command_ok, type_ok, region_ok, unfilled, no_region, no_channel, no_frame, quiet, reachable_of}
+use Rattle.zniffer_tests.specs.Tests.{command_ok, type_ok, region_ok, reachable_of}
 use Rattle.zniffer_states.specs.Step.{going, done, whole}
 use Rattle.zniffer_starts.specs.Header.{no_head, command_heads, frame_heads, command_head, frame_head, head_of}
 use Rattle.zniffer_starts.specs.declared.headers.Head.{Head}
 use Rattle.zniffer_states.proofs.Laws.{both, in_state, room}
 use Rattle.zniffer_core.specs.Run.{core_step_of, core_run_from}
-use Rattle.zniffer_core.proofs.Kept.{whole_half, top, low, at_0}
+use Rattle.zniffer_core.proofs.Kept.{whole_half, top, low}
 use Rattle.zniffer_core.proofs.RunLaws.{taken, on, run_last}
 use Rattle.zniffer_core.proofs.Skips.{later, skipped, still}
 
@@ -204,30 +204,3 @@ pub whole_at_start : (s : List ℕ) → ((k : ℕ) → get_or s k 0 < 256) → (
 whole_at_start s bytes some n e long =
     let h = heads s bytes in let w = h.waits some in
     h.runs ∙ whole_payload (head_of s).core h.passes w.0 n (omega (arith, e, w.1)) s (head_of s).size long
-
--- an idle parser that passes the test is fresh
-two_true : (a b : Bool) → (a && b) ≡ true → (a ≡ true) × (b ≡ true)
-two_true a b e = (left a b e, right a b e)
-
-pub idle_fresh : (c : Core) → reachable_of c ≡ true → c.state ≡ 0 → c ≡ fresh_core
-idle_fresh c h s =
-    let all = two_true (quiet c) (unfilled c) (at_0 c h 0 (omega arith) s) in
-    let filled = two_true (eqb c.length 0) (eqb c.count 0) all.1 in
-    let said = two_true (eqb c.command_id 0) (no_frame c) all.0 in
-    let frame = two_true (eqb c.frame_type 0 && (eqb c.timestamp 0 && not c.timestamp_state)) (no_channel c) said.1 in
-    let typed = two_true (eqb c.frame_type 0) (eqb c.timestamp 0 && not c.timestamp_state) frame.0 in
-    let timed = two_true (eqb c.timestamp 0) (not c.timestamp_state) typed.1 in
-    let channel = two_true (eqb c.channel 0 && eqb c.speed 0) (no_region c) frame.1 in
-    let placed = two_true (eqb c.channel 0) (eqb c.speed 0) channel.0 in
-    let region = two_true (eqb c.region 0) (eqb c.rssi 0) channel.1 in
-    let i = eqb-true c.command_id 0 said.0 in
-    let l = eqb-true c.length 0 filled.0 in
-    let n = eqb-true c.count 0 filled.1 in
-    let t = eqb-true c.frame_type 0 typed.0 in
-    let w = eqb-true c.timestamp 0 timed.0 in
-    let ch = eqb-true c.channel 0 placed.0 in
-    let sp = eqb-true c.speed 0 placed.1 in
-    let g = eqb-true c.region 0 region.0 in
-    let r = eqb-true c.rssi 0 region.1 in
-    let u = not-true c.timestamp_state timed.1 in
-    λ j. core (s j) (i j) (l j) (n j) (t j) (w j) (u j) (ch j) (sp j) (g j) (r j)

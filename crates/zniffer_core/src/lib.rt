@@ -7,10 +7,13 @@ ghost use Rattle.zniffer_tests.specs.Tests.{reachable_of};
 ghost use Rattle.zniffer_numbers.specs.Numbers.{fresh_core};
 ghost use Rattle.zniffer_core.specs.Run.{core_step_of, core_run_from};
 
-use zniffer_numbers::{Core, CoreStep, ParserResult};
+use zniffer_numbers::{Core, CoreStep, ParserResult, fresh_core, goes_on};
+use zniffer_starts::{header_of, idle_bytes};
+use zniffer_states::{take_byte, whole_of};
+use zniffer_tests::reachable;
 
 // What several bytes leave and give, and how many of them were used.
-#[derive(Clone, Copy)]
+#[derive(Clone, Copy, Debug, PartialEq, Eq)]
 pub struct CoreRan {
     pub core: Core,
     pub result: ParserResult,
@@ -18,30 +21,25 @@ pub struct CoreRan {
 }
 
 // One byte, at any numbers.
+#[tactic(auto, using(crate::proofs::RunLaws::took, crate::proofs::RunLaws::refuses))]
 pub fn core_step(c: Core, value: u8) -> CoreStep
     ensures { result ≡ core_step_of c value }
 {
-    if zniffer_tests::reachable(c) {
-        return zniffer_states::take_byte(c, value);
-    }
-    let core = zniffer_numbers::fresh_core();
-    CoreStep {
-        core,
-        result: ParserResult::InvalidFrame,
+    if reachable(c) {
+        take_byte(c, value)
+    } else {
+        CoreStep {
+            core: fresh_core(),
+            result: ParserResult::InvalidFrame,
+        }
     }
 }
 
 // Numbers that some bytes were passed over with, and the place after these.
-#[derive(Clone, Copy)]
+#[derive(Clone, Copy, Debug, PartialEq, Eq)]
 struct Ahead {
     pub core: Core,
     pub at: usize,
-}
-
-fn smaller(a: usize, b: usize) -> usize
-    ensures { (result ≤ a) × (result ≤ b) }
-{
-    if a < b { a } else { b }
 }
 
 // Bytes that an idle parser ignores change nothing, and a payload's but the last the count alone: those from a place on are passed
@@ -51,23 +49,22 @@ fn skip_ahead(c: Core, s: &[u8], at: usize) -> Ahead
     ensures { (result.at ≤ length s.now) × (at ≤ result.at) × (reachable_of result.core ≡ true)
         × (core_run_from at (drop at s.now) c ≡ core_run_from result.at (drop result.at s.now) result.core) }
 {
-    if c.state == 0 {
-        let rest = &s[at..];
-        let ignored = zniffer_starts::idle_bytes(rest);
-        return Ahead {
+    match c.state {
+        0 => Ahead {
             core: c,
-            at: at + ignored,
-        };
-    }
-    if c.state != 3 {
-        return Ahead { core: c, at };
-    }
-    let by = smaller((c.length - c.count - 1) as usize, s.len() - at);
-    let mut next = c;
-    next.count = c.count + (by as u8);
-    Ahead {
-        core: next,
-        at: at + by,
+            at: at + idle_bytes(&s[at..]),
+        },
+        3 => {
+            let by = usize::from(c.length - c.count - 1).min(s.len() - at);
+            Ahead {
+                core: Core {
+                    count: c.count + by as u8,
+                    ..c
+                },
+                at: at + by,
+            }
+        }
+        _ => Ahead { core: c, at },
     }
 }
 
@@ -78,37 +75,27 @@ fn run_reached(c: Core, s: &[u8]) -> CoreRan
     ensures { result ≡ core_run_from 0 s.now c }
 {
     let mut q = c;
-    let mut i = 0;
-    while i < s.len() {
-        let on = skip_ahead(q, s, i);
-        q = on.core;
-        i = on.at;
-        if i == s.len() {
-            continue;
-        }
-        let t = zniffer_states::take_byte(q, s[i]);
-        q = t.core;
-        let result = t.result;
-        i += 1;
-        if !zniffer_numbers::goes_on(result) {
+    let mut used = 0;
+    loop {
+        let ahead = skip_ahead(q, s, used);
+        let Some(value) = s.get(ahead.at) else {
             return CoreRan {
-                core: q,
-                result,
-                used: i,
+                core: ahead.core,
+                result: ParserResult::IncompleteFrame,
+                used: ahead.at,
+            };
+        };
+        let t = take_byte(ahead.core, *value);
+        used = ahead.at + 1;
+        if !goes_on(t.result) {
+            return CoreRan {
+                core: t.core,
+                result: t.result,
+                used,
             };
         }
+        q = t.core;
     }
-    CoreRan {
-        core: q,
-        result: ParserResult::IncompleteFrame,
-        used: i,
-    }
-}
-
-fn wide(x: u8) -> usize
-    ensures { (result ≡ x) × (result < 256) }
-{
-    x as usize
 }
 
 // Several bytes, from a fresh parser's numbers. A command or a frame that lies whole at their start, as nearly all do, is answered at
@@ -116,39 +103,39 @@ fn wide(x: u8) -> usize
 pub fn run_fresh(s: &[u8]) -> CoreRan
     ensures { result ≡ core_run_from 0 s.now fresh_core }
 {
-    let core = zniffer_numbers::fresh_core();
-    let h = zniffer_starts::header_of(s);
-    let c = h.core;
-    let used = h.size + wide(c.length);
-    let whole = (h.size != 0) & (used <= s.len());
-    if !whole {
-        return run_reached(core, s);
+    let h = header_of(s);
+    let used = h.size + usize::from(h.core.length);
+    if h.size == 0 || used > s.len() {
+        return run_reached(fresh_core(), s);
     }
-    let result = zniffer_states::whole_of(c);
-    CoreRan { core, result, used }
+    CoreRan {
+        core: fresh_core(),
+        result: whole_of(h.core),
+        used,
+    }
 }
 
 // Several bytes, from any numbers.
 pub fn run_core(c: Core, s: &[u8]) -> CoreRan
     ensures { result ≡ core_run_from 0 s.now c }
 {
-    if zniffer_tests::reachable(c) {
+    if reachable(c) {
         if c.state == 0 {
-            return run_fresh(s);
+            run_fresh(s)
+        } else {
+            run_reached(c, s)
         }
-        return run_reached(c, s);
-    }
-    if s.len() == 0 {
-        return CoreRan {
+    } else if s.is_empty() {
+        CoreRan {
             core: c,
             result: ParserResult::IncompleteFrame,
             used: 0,
-        };
-    }
-    let core = zniffer_numbers::fresh_core();
-    CoreRan {
-        core,
-        result: ParserResult::InvalidFrame,
-        used: 1,
+        }
+    } else {
+        CoreRan {
+            core: fresh_core(),
+            result: ParserResult::InvalidFrame,
+            used: 1,
+        }
     }
 }

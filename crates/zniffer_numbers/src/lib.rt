@@ -6,7 +6,7 @@ ghost use Rattle.zniffer_numbers.specs.Numbers.{fresh_core, goes_on};
 
 // What a byte gives: a command or a frame, whose payload is `length` bytes long; that more bytes are wanted; or that the
 // byte is bad.
-#[derive(Clone, Copy)]
+#[derive(Clone, Copy, Debug, PartialEq, Eq)]
 pub enum ParserResult {
     ValidCommand {
         id: u8,
@@ -27,7 +27,7 @@ pub enum ParserResult {
 // The states, in the Rust's order: 0 AwaitStartOfFrame, 1 AwaitCommandID, 2 AwaitLength, 3 AwaitPayload, 4 AwaitType,
 // 5 AwaitTimestamp, 6 AwaitChannelAndSpeed, 7 AwaitRegion, 8 AwaitRssi, 9 AwaitStartofDataOne, 10 AwaitStartofDataTwo.
 // `count` is how many bytes of the payload there are so far, and `timestamp_state` that the timestamp lacks its low byte.
-#[derive(Clone, Copy)]
+#[derive(Clone, Copy, Debug, Default, PartialEq, Eq)]
 pub struct Core {
     pub state: u8,
     pub command_id: u8,
@@ -42,7 +42,7 @@ pub struct Core {
     pub rssi: u8,
 }
 
-#[derive(Clone, Copy)]
+#[derive(Clone, Copy, Debug, PartialEq, Eq)]
 pub struct CoreStep {
     pub core: Core,
     pub result: ParserResult,
@@ -51,36 +51,12 @@ pub struct CoreStep {
 pub fn fresh_core() -> Core
     ensures { result ≡ fresh_core }
 {
-    Core {
-        state: 0,
-        command_id: 0,
-        length: 0,
-        count: 0,
-        frame_type: 0,
-        timestamp: 0,
-        timestamp_state: false,
-        channel: 0,
-        speed: 0,
-        region: 0,
-        rssi: 0,
-    }
+    Core::default()
 }
 
 // Whether a result wants more bytes.
 pub fn goes_on(r: ParserResult) -> bool
     ensures { result ≡ goes_on r }
 {
-    match r {
-        ParserResult::IncompleteFrame => true,
-        ParserResult::InvalidFrame => false,
-        ParserResult::ValidCommand { id: _, length: _ } => false,
-        ParserResult::ValidFrame {
-            timestamp: _,
-            channel: _,
-            speed: _,
-            region: _,
-            rssi: _,
-            length: _,
-        } => false,
-    }
+    matches!(r, ParserResult::IncompleteFrame)
 }

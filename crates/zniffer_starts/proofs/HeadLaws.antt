@@ -1,27 +1,14 @@
--- What header some bytes begin with, by the ways out of `header_of`; and a header's test with what is answered of its type and region. Assumes nothing.
-use Prim.Native.Nat.{ℕ, ◌≤◌, ◌<◌}
-use borrow.Author.Tests.{le-leb, lt-leb, eq-eqb, ne_eqb}
+-- The header that enough bytes begin with. Assumes nothing.
+use Prim.Native.Nat.{ℕ, ◌≤◌}
+use borrow.Author.Tests.{le-leb, eq-eqb, ne_eqb}
 use lib.ListN.{length, get_or}
 use mathlib.Core.Bool.{and-false}
 use mathlib.Core.List.{List}
 use mathlib.Core.Path.{◌≡◌}
 use native.Mathlib.Omega.{arith}
-use Rattle.zniffer_starts.specs.Header.{no_head, command_head, frame_head, head_of}
+use Rattle.zniffer_starts.specs.Header.{command_head, frame_head, head_of}
 
 module _ (s : List ℕ) where
-  -- too few bytes for a command; too few for a frame, and no command; no start at all
-  pub too_few : length s < 3 → no_head ≡ head_of s
-  unfolding head_of
-  too_few h = rw (lt-leb 3 (length s) h, lt-leb 10 (length s) (omega (arith, h)))
-
-  pub no_room : (get_or s 0 0 ≡ 0x23 → ⊥) → length s < 10 → no_head ≡ head_of s
-  unfolding head_of
-  no_room n h = simp (ne_eqb (get_or s 0 0) 0x23 n, and-false, lt-leb 10 (length s) h)
-
-  pub no_start : (get_or s 0 0 ≡ 0x23 → ⊥) → (get_or s 0 0 ≡ 0x21 → ⊥) → no_head ≡ head_of s
-  unfolding head_of
-  no_start n m = simp (ne_eqb (get_or s 0 0) 0x23 n, ne_eqb (get_or s 0 0) 0x21 m, and-false)
-
   pub a_command : 3 ≤ length s → get_or s 0 0 ≡ 0x23 → command_head (get_or s 1 0) (get_or s 2 0) ≡ head_of s
   unfolding head_of
   a_command h e = rw (le-leb 3 (length s) h, eq-eqb (get_or s 0 0) 0x23 e)

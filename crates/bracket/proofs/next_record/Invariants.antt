@@ -6,8 +6,8 @@ use mathlib.Core.Path.{◌≡◌}
 use Rattle.bracket.specs.Bracket.{next_record}
 use Rattle.bracket.proofs.next_record.Given as goal
 
-abbrev pub invariant-loop-from : goal.invariant-loop-from
-invariant-loop-from l = next_record l.payload l.from ≡ next_record l.payload l.at
+abbrev pub invariant-loop-len : goal.invariant-loop-len
+invariant-loop-len l = next_record l.payload l.from ≡ next_record l.payload l.at
 
-abbrev pub decreases-loop-from : goal.decreases-loop-from
-decreases-loop-from l = length l.payload - l.from
+abbrev pub decreases-loop-len : goal.decreases-loop-len
+decreases-loop-len l = length l.payload - l.from

@@ -1,23 +1,24 @@
--- `checksum::header_sum` meets its contract. The invariant of both loops: the bytes from `i` on lead from the sum so far to the sum of all.
--- Assumes nothing.
-use mathlib.Core.Path.{refl, sym, ◌∙◌}
-use borrow.Author.Rules.{rules}
-use Rattle.checksum.proofs.SumSteps.{bytes_more, byte_more, bytes_done}
+-- `checksum::header_sum` meets its contract. Assumes nothing.
+use Rattle.std.proofs.Common.{◌≡◌, ◌*◌, ◌/◌, length, arith, sym, ◌∙◌}
+use Rattle.checksum.proofs.Octets.{word_more}
 use Rattle.checksum.proofs.SumRule.{start_sum}
+use Rattle.checksum.proofs.SumSteps.{byte_more, bytes_done}
 use Rattle.checksum.proofs.header_sum.Goals as goal
 
-pub loop-i-init : goal.loop-i-init
-loop-i-init c = (search rules, rw start_sum refl)
+pub loop-word-init : goal.loop-word-init
+loop-word-init c = rw start_sum
 
-pub loop-i-preserved : goal.loop-i-preserved
-loop-i-preserved c =
-    (search rules, rw (c.sum_word-register.ensures, c.word_at.ensures) (bytes_more 8 _ c.args.bytes.now c.loop-i.i ∙ c.loop-i.invariant.1))
+pub loop-word-preserved : goal.loop-word-preserved
+loop-word-preserved c =
+    word_more _ _ _ _ _ _ (λ k. (c.type_inv.bytes k).fits) c.as_chunks.ensures.front (omega arith) c.from_be_bytes.ensures c.sum_word-register.ensures ∙ c.loop-word.invariant
 
-pub loop-i-2-init : goal.loop-i-2-init
-loop-i-2-init c = (search rules, rw c.remainder-sum.ensures c.loop-i.invariant.1)
+pub loop-byte-init : goal.loop-byte-init
+loop-byte-init c =
+    let all : c.loop-word.word-index * 8 ≡ length c.args.bytes.now / 8 * 8 = omega arith in
+    rw (c.remainder-sum.ensures, c.as_chunks.ensures.back) (rw all at c.loop-word.invariant)
 
-pub loop-i-2-preserved : goal.loop-i-2-preserved
-loop-i-2-preserved c = (search rules, rw c.sum_byte-sum.ensures (byte_more _ _ _ c.loop-i-2-test.true ∙ c.loop-i-2.invariant.1))
+pub loop-byte-preserved : goal.loop-byte-preserved
+loop-byte-preserved c = rw c.sum_byte-sum.ensures (byte_more _ _ _ c.loop-byte-test.true ∙ c.loop-byte.invariant)
 
 pub returns : goal.returns
-returns c = sym (bytes_done _ _ _ c.loop-i-2-test.false) ∙ c.loop-i-2.invariant.1
+returns c = sym (bytes_done _ _ _ c.loop-byte-test.false) ∙ c.loop-byte.invariant

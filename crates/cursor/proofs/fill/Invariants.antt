@@ -1,16 +1,11 @@
--- The invariant of `fill`'s loop: the turns that are left, from the index, the place and the table reached, give what the contract says. The
--- measure is the turns that are left. Assumes nothing.
-use Rattle.std.proofs.Common.{◌≡◌, ◌-◌, ◌≤◌, ◌++◌, length, drop}
+-- The invariant of `fill`'s loop: the place reached is one that a page comes to, and the rows written and those from it on are the n rows. Assumes
+-- nothing.
+use Rattle.std.proofs.Common.{◌≡◌, ◌-◌, ◌++◌, take}
 use Rattle.record.specs.Record.{plausible}
-use Rattle.steps.specs.Step.{rows_of}
-use Rattle.cursor.proofs.Fills.{goes}
+use Rattle.steps.specs.Step.{Sound, rows_of}
 use Rattle.cursor.proofs.fill.Given as goal
 
-abbrev pub invariant-loop-i : goal.invariant-loop-i
-invariant-loop-i l =
-    (l.i ≤ l.n)
-    × (length l.table ≡ length l.fn.table)
-    × (goes l.kinds l.s (l.n - l.i) l.i l.at l.table ≡ rows_of plausible l.kinds l.s l.fn.p l.n ++ drop l.n l.fn.table)
-
-abbrev pub decreases-loop-i : goal.decreases-loop-i
-decreases-loop-i l = l.n - l.i
+abbrev pub invariant-loop-row : goal.invariant-loop-row
+invariant-loop-row l =
+    let kinds = l.trace.kinds.now in let s = l.trace.bytes.now in
+    Sound l.at × (take l.row-index l.row-items ++ rows_of plausible kinds s l.at (l.n - l.row-index) ≡ rows_of plausible kinds s l.fn.place l.n)

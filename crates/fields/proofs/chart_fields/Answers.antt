@@ -1,23 +1,26 @@
--- `fields::chart_fields` meets its contract: the four speeds are the region's row. Assumes nothing.
+-- `fields::chart_fields` meets its contract. Assumes nothing.
 use Prim.Native.Nat.{ℕ}
-use mathlib.Core.List.{[], ◌∷◌}
-use mathlib.Core.Path.{◌≡◌, ap}
+use lib.ListN.{drop}
+use mathlib.Core.Path.{◌≡◌, ap, ◌∙◌}
+use Rattle.text.proofs.Puts.{joined, renamed, less_left, none_left}
+use native.Mathlib.Omega.{arith}
 use Rattle.speed.specs.Chart.{row_for}
-use Rattle.speed.specs.Speed.{speed_for}
-use Rattle.text.proofs.Puts.{renamed}
-use Rattle.fields.specs.Fields.{line_of, chart_fields}
+use borrow.Author.Rules.{rules}
+use Rattle.fields.specs.Fields.{field, fields_of, line_of, lettered, chart_fields}
+use Rattle.fields.proofs.Same.{field_is, next_rate}
 use Rattle.fields.proofs.chart_fields.Goals as goal
 
-four : {a b c d : ℕ} (region : ℕ) → a ≡ speed_for 0 region → b ≡ speed_for 1 region → c ≡ speed_for 2 region → d ≡ speed_for 3 region
-    → (region ∷ a ∷ b ∷ c ∷ d ∷ []) ≡ region ∷ row_for region
-four region e f g h = simp (e, f, g, h)
+pub loop-channel-preserved : goal.loop-channel-preserved
+loop-channel-preserved c =
+    less_left c.loop-channel.invariant (next_rate c.args.region c.loop-channel.channel (search rules))
+    (renamed (field_is _ ∙ ap field (c.from-in-loop-channel.ensures ∙ c.speed_for.ensures)) c.put_field-in-loop-channel.ensures.puts)
 
 pub returns : goal.returns
-unfolding chart_fields
+unfolding chart_fields line_of lettered fields_of
 returns c =
-    let region = c.args.region in
-    let e = c.speed_for-first.ensures in
-    let f = c.speed_for-second.ensures in
-    let g = c.speed_for-third.ensures in
-    let h = c.speed_for-fourth.ensures in
-    renamed (ap (line_of 0x43) (four region e f g h)) c.put_line.ensures
+    let four : c.loop-channel.channel ≡ 4 = omega arith in
+    joined
+    (joined
+    (joined c.put_byte.ensures (renamed (field_is _ ∙ ap field c.from.ensures) c.put_field.ensures.puts))
+    (none_left c.loop-channel.invariant (ap (λ (i : ℕ). fields_of (drop i (row_for c.args.region))) four)))
+    c.put_byte-2.ensures

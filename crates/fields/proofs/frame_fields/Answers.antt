@@ -1,12 +1,16 @@
--- `fields::frame_fields` meets its contract: one text after the other. Assumes nothing.
-use mir.Syntax.{w64}
-use mir.ValLaws.{to_z-of_z}
+-- `fields::frame_fields` meets its contract. Assumes nothing.
+use Prim.Native.Nat.{ℕ}
+use mathlib.Core.List.{[], ◌∷◌, ◌++◌}
+use mathlib.Core.Path.{ap, ◌∙◌}
 use Rattle.text.proofs.Puts.{joined, renamed}
-use Rattle.fields.specs.Fields.{origin_fields}
-use borrow.Author.Rules.{rules}
+use Rattle.text.specs.Texts.{decimal_text}
+use Rattle.fields.proofs.Same.{frame_is}
+use Rattle.lines.specs.Lines.{lettered, spaced, row_fields}
+use Rattle.names.specs.Names.{mpdu_text}
 use Rattle.fields.proofs.frame_fields.Goals as goal
 
 pub returns : goal.returns
 returns c =
-    let row = c.args.row in
-    joined (joined (renamed (λ j. origin_fields row.«record» row.position (to_z-of_z w64 row.millis (search rules) j) (to_z-of_z w64 row.gap (search rules) j)) c.put_origin-origin.ensures) c.put_radio-radio.ensures) c.put_mpdu.ensures
+    let a = c.args in
+    renamed (ap (λ (k : ℕ). (lettered 0x46 (row_fields a.row) ++ spaced (decimal_text k ∷ [])) ++ mpdu_text a.mpdu.now) c.from.ensures ∙ frame_is a.kind a.row a.mpdu.now)
+    (joined (joined c.put_row.ensures c.put_field.ensures.puts) c.put_mpdu.ensures)

@@ -3,4 +3,4 @@ use Rattle.lines.proofs.Lines.{field}
 use Rattle.lines.proofs.put_field.Goals as goal
 
 pub returns : goal.returns
-returns c = field c.put_byte-digits.ensures c.put_decimal.ensures
+returns c = field c.put_byte.ensures c.put_decimal.ensures

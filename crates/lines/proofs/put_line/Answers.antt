@@ -1,6 +1,9 @@
 -- `lines::put_line` meets its contract. Assumes nothing.
-use Rattle.lines.proofs.Lines.{line}
+use Rattle.text.proofs.Puts.{joined}
+use Rattle.lines.specs.Lines.{line_text}
+use Rattle.lines.proofs.Lines.{letter}
 use Rattle.lines.proofs.put_line.Goals as goal
 
 pub returns : goal.returns
-returns c = line c.put_byte-next.ensures c.put_field-end.ensures c.put_byte.ensures
+unfolding line_text
+returns c = joined (letter c.put_byte.ensures c.put_fields.ensures) c.put_byte-2.ensures

@@ -1,12 +1,13 @@
--- `lines::put_mpdu` meets its contract. RSSI was widened before it is put, and fits 8 bits, as the row says. Assumes nothing.
-use Rattle.lines.proofs.Lines.{fields, same_field, widened}
+-- `lines::put_mpdu` meets its contract. Assumes nothing.
 use borrow.Author.Rules.{rules}
+use mathlib.Core.List.{[], ◌∷◌}
+use Rattle.text.specs.Texts.{decimal_text, signed_text}
+use Rattle.lines.proofs.Lines.{fields, same_fields, narrow}
 use Rattle.lines.proofs.put_mpdu.Goals as goal
 
 pub returns : goal.returns
 returns c =
     let r = c.args.r in
-    fields
-    (same_field (widened c.signed.result r.rssi (search rules) c.signed.ensures)
-    c.put_signed_field-rssi.ensures)
-    (fields c.put_field-beams.ensures (fields c.put_field-mpdu.ensures c.put_field.ensures))
+    fields {a = signed_text r.rssi ∷ []} {b = decimal_text r.beam_count ∷ decimal_text r.mpdu ∷ decimal_text r.mpdu_len ∷ []}
+    (same_fields (narrow {x = r.rssi} (search rules) c.from.ensures) c.put_signed_field.ensures)
+    (same_fields (cc) c.put_fields.ensures)

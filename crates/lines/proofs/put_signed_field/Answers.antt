@@ -1,7 +1,6 @@
 -- `lines::put_signed_field` meets its contract. Assumes nothing.
-use Rattle.text.proofs.Puts.{renamed}
-use Rattle.lines.proofs.Lines.{field, kept}
+use Rattle.lines.proofs.Lines.{field, same_fields, kept}
 use Rattle.lines.proofs.put_signed_field.Goals as goal
 
 pub returns : goal.returns
-returns c = field c.put_byte-next.ensures (renamed (kept _ c.ranges.z) c.put_signed.ensures)
+returns c = same_fields (kept _ c.ranges.z) (field c.put_byte.ensures c.put_signed.ensures)

@@ -1,23 +1,29 @@
 -- `listing::put_seam` meets its contract. Assumes nothing.
-use mathlib.Core.Path.{sym, ap}
-use Rattle.text.proofs.Puts.{renamed}
+use mathlib.Core.Path.{sym, ap, ◌∙◌}
+use Rattle.std.specs.Prelude.{Result, Ok}
 use Rattle.seam.specs.Seam.{told_seam}
 use Rattle.seam.specs.declared.Seam.{Seam}
+use Rattle.seam.specs.declared.SeamError.{SeamError}
+use Rattle.text.proofs.Puts.{renamed}
+use Rattle.lines.specs.Lines.{refusal_text}
 use Rattle.listing.specs.Listing.{seam_line}
+use Rattle.listing.proofs.Answers.{unchecked}
 use Rattle.listing.proofs.put_seam.Goals as goal
 
-pub returns-in-Unbroken : goal.returns-in-Unbroken
+pub returns-in-Ok-Unbroken : goal.returns-in-Ok-Unbroken
 unfolding seam_line
-returns-in-Unbroken c = renamed (ap (λ (m : Seam). seam_line c.args.place (told_seam m)) (sym c.in-Unbroken.is)) c.put_unbroken.ensures
+returns-in-Ok-Unbroken c =
+    let arm = c.in-Ok-Unbroken in
+    renamed (ap (λ (m : Result Seam SeamError). seam_line c.args.place (told_seam m)) (sym (arm.is ∙ ap Ok (rw arm.is at arm.field-0-is)))) c.put_line.ensures
 
-pub returns-in-Broken : goal.returns-in-Broken
+pub returns-in-Ok-Broken : goal.returns-in-Ok-Broken
 unfolding seam_line
-returns-in-Broken c = renamed (ap (λ (m : Seam). seam_line c.args.place (told_seam m)) (sym c.in-Broken.is)) c.put_broken.ensures
+returns-in-Ok-Broken c =
+    let arm = c.in-Ok-Broken in
+    renamed (ap (λ (m : Result Seam SeamError). seam_line c.args.place (told_seam m)) (sym (arm.is ∙ ap Ok (rw arm.is at arm.field-0-is))))
+    c.put_line-in-Ok-Broken.ensures
 
-pub returns-in-TraceTooLong : goal.returns-in-TraceTooLong
-unfolding seam_line
-returns-in-TraceTooLong c = renamed (ap (λ (m : Seam). seam_line c.args.place (told_seam m)) (sym c.in-TraceTooLong.is)) c.refusal_line.ensures
-
-pub returns-in-PlaceOutside : goal.returns-in-PlaceOutside
-unfolding seam_line
-returns-in-PlaceOutside c = renamed (ap (λ (m : Seam). seam_line c.args.place (told_seam m)) (sym c.in-PlaceOutside.is)) c.refusal_line-in-PlaceOutside.ensures
+pub returns-in-Err : goal.returns-in-Err
+returns-in-Err c =
+    renamed (ap refusal_text c.number.ensures ∙ unchecked c.args.place c.in-Err.error ∙ ap (λ (m : Result Seam SeamError). seam_line c.args.place (told_seam m)) (sym c.in-Err.is))
+    c.refusal_line.ensures

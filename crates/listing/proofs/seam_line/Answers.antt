@@ -1,24 +1,28 @@
 -- `listing::seam_line` meets its contract. Assumes nothing.
 use mathlib.Core.Path.{sym, ap, ◌∙◌}
-use Rattle.text.proofs.Puts.{renamed}
 use Rattle.resync.specs.Search.{told_search}
-use Rattle.lines.specs.Lines.{spaced, line_text}
-use Rattle.listing.proofs.Answers.{found_text, none_text_lem, too_long_text, window_text}
+use Rattle.text.proofs.Puts.{renamed}
+use Rattle.lines.specs.Lines.{refusal_text}
+use Rattle.listing.specs.Listing.{seam_found}
+use Rattle.listing.proofs.Answers.{found_text, nothing_text, unsearched}
 use Rattle.listing.proofs.seam_line.Goals as goal
 
-pub returns-in-Found : goal.returns-in-Found
-returns-in-Found c =
-    renamed (found_text c.args.kinds.now c.args.s.now _ _ _ _ (ap told_search (sym c.in-Found.is) ∙ c.next_record_at.ensures) c.seam_check.ensures) c.put_seam.ensures
+pub returns-in-Some : goal.returns-in-Some
+returns-in-Some c =
+    let kinds = c.args.trace.kinds.now in let s = c.args.trace.bytes.now in
+    renamed
+    (found_text kinds s c.in-Ok.search _ _ c.in-Some.is c.seam_check.ensures ∙ ap (seam_found kinds s) (ap told_search (sym c.in-Ok.is) ∙ c.next_record_at.ensures))
+    c.put_seam.ensures
 
-pub returns-in-Nothing : goal.returns-in-Nothing
-unfolding spaced line_text
-returns-in-Nothing c =
-    renamed (none_text_lem c.args.kinds.now c.args.s.now _ _ (ap told_search (sym c.in-Nothing.is) ∙ c.next_record_at.ensures)) c.put_text.ensures
+pub returns-in-None : goal.returns-in-None
+returns-in-None c =
+    let kinds = c.args.trace.kinds.now in let s = c.args.trace.bytes.now in
+    renamed (nothing_text kinds s c.in-Ok.search c.in-None.is ∙ ap (seam_found kinds s) (ap told_search (sym c.in-Ok.is) ∙ c.next_record_at.ensures))
+    c.put_line.ensures
 
-pub returns-in-TraceTooLong : goal.returns-in-TraceTooLong
-returns-in-TraceTooLong c =
-    renamed (too_long_text c.args.kinds.now c.args.s.now _ (ap told_search (sym c.in-TraceTooLong.is) ∙ c.next_record_at.ensures)) c.refusal_line.ensures
-
-pub returns-in-WindowTooLong : goal.returns-in-WindowTooLong
-returns-in-WindowTooLong c =
-    renamed (window_text c.args.kinds.now c.args.s.now _ (ap told_search (sym c.in-WindowTooLong.is) ∙ c.next_record_at.ensures)) c.refusal_line-in-WindowTooLong.ensures
+pub returns-in-Err : goal.returns-in-Err
+returns-in-Err c =
+    let kinds = c.args.trace.kinds.now in let s = c.args.trace.bytes.now in
+    renamed
+    (ap refusal_text c.number.ensures ∙ unsearched kinds s c.in-Err.error ∙ ap (seam_found kinds s) (ap told_search (sym c.in-Err.is) ∙ c.next_record_at.ensures))
+    c.refusal_line.ensures

@@ -1,15 +1,9 @@
 -- `names::instant` meets its contract. Assumes nothing.
-use Rattle.names.proofs.Texts.{before_epoch, before_all, after_fits, after_epoch}
+use mathlib.Core.Path.{◌∙◌}
+use mir.Syntax.{w64}
+use mir.ValLaws.{to_z-of_z}
+use Rattle.names.proofs.Texts.{instant_is}
 use Rattle.names.proofs.instant.Goals as goal
 
-pub returns-then-size-le-UNIX_EPOCH : goal.returns-then-size-le-UNIX_EPOCH
-returns-then-size-le-UNIX_EPOCH c = before_epoch _ c.ranges.millis _ c.magnitude-size.ensures c.if-millis-lt0.true c.if-size-le-UNIX_EPOCH.true
-
-pub returns-then-millis-lt0 : goal.returns-then-millis-lt0
-returns-then-millis-lt0 c = before_all _ c.ranges.millis _ c.magnitude-size.ensures c.if-millis-lt0.true c.if-size-le-UNIX_EPOCH.false
-
-pub overflow_add-result : goal.overflow_add-result
-overflow_add-result c = after_fits _ c.ranges.millis _ c.magnitude-size.ensures
-
 pub returns : goal.returns
-returns c = after_epoch _ c.ranges.millis _ c.magnitude-size.ensures c.if-millis-lt0.false
+returns c = c.unwrap_or.ensures ∙ instant_is c.args.millis _ c.ranges.millis (rw (to_z-of_z w64 c.args.millis c.ranges.millis) at c.checked_add_signed.ensures)

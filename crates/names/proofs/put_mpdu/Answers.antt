@@ -5,4 +5,4 @@ use Rattle.names.proofs.put_mpdu.Goals as goal
 
 pub returns : goal.returns
 unfolding mpdu_text
-returns c = joined (joined c.put_byte-next.ensures c.put_bytes-end.ensures) c.put_byte.ensures
+returns c = joined c.put_byte.ensures (joined c.put_bytes.ensures c.put_byte-2.ensures)

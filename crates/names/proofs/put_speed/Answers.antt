@@ -1,9 +1,11 @@
 -- `names::put_speed` meets its contract: an entry of the table. Assumes nothing.
-use mathlib.Core.Path.{ap}
+use mathlib.Core.Path.{◌∙◌}
+use native.Mathlib.Omega.{arith}
 use Rattle.text.proofs.Puts.{renamed}
-use Rattle.names.specs.Names.{entry_in, speeds, speed_text}
+use Rattle.names.specs.Names.{speeds, speed_text}
+use Rattle.names.proofs.Texts.{entry_at}
 use Rattle.names.proofs.put_speed.Goals as goal
 
 pub returns : goal.returns
 unfolding speed_text speeds
-returns c = renamed (ap (entry_in speeds 5) c.at_most-index.ensures) c.put_entry.ensures
+returns c = renamed (entry_at speeds 5 5 _ _ (omega arith) (c.from.ensures ∙ c.min.ensures)) c.put_text.ensures

@@ -1,8 +1,7 @@
 -- `record::read_record` meets its contract: a trace over the limit is refused first. Assumes nothing.
-use borrow.Author.Tests.{lt-ltb}
-use Rattle.record.specs.Record.{record_at}
+use Rattle.layout.proofs.Limit.{over}
+use Rattle.record.proofs.Ways.{too_long}
 use Rattle.record.proofs.read_record.Goals as goal
 
-pub returns-then-s-gt-TRACE_LIMIT : goal.returns-then-s-gt-TRACE_LIMIT
-unfolding record_at
-returns-then-s-gt-TRACE_LIMIT c = simp (lt-ltb _ _ c.if-s-gt-TRACE_LIMIT.true)
+pub returns-in_err-readable : goal.returns-in_err-readable
+returns-in_err-readable c = too_long _ _ _ _ (over c.in_err-readable.ensures.fits.1) c.from_residual.result c.from_residual.ensures.0

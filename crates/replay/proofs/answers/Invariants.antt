@@ -2,8 +2,14 @@
 use Rattle.std.proofs.Common.{◌≡◌, ◌-◌, ◌≤◌, length}
 use Rattle.replay.proofs.answers.Given as goal
 
-abbrev pub invariant-loop-p : goal.invariant-loop-p
-invariant-loop-p g l = (l.p.at ≤ length l.b) × (l.p.from ≤ l.p.to) × (l.p.to ≤ l.p.at) × (length l.b ≡ length l.initial.b) × (length l.lines ≡ length l.initial.lines)
+abbrev pub invariant-loop-at : goal.invariant-loop-at
+invariant-loop-at g l = record {
+  in_cases : l.at ≤ length l.cases;
+  counted : l.count ≤ l.at;
+  ordered : l.part.start ≤ l.part.end;
+  before : l.part.end ≤ l.at;
+  len : length l.cases ≡ length l.initial.cases;
+}
 
-abbrev pub decreases-loop-p : goal.decreases-loop-p
-decreases-loop-p g l = length l.initial.b - l.p.at
+abbrev pub decreases-loop-at : goal.decreases-loop-at
+decreases-loop-at g l = length l.initial.cases - l.at

@@ -10,7 +10,7 @@ use Rattle.resync.proofs.first_boundary.Given as goal
 abbrev pub invariant-loop-offset : goal.invariant-loop-offset
 invariant-loop-offset l = (l.start ≤ l.offset)
     × ((l.offset ≤ l.limit)
-    × ((k : ℕ) → l.start ≤ k → k < l.offset → boundary (next_at plausible l.kinds l.s) (length l.s) k ≡ false))
+    × ((k : ℕ) → l.start ≤ k → k < l.offset → boundary (next_at plausible l.trace.kinds.now l.trace.bytes.now) (length l.trace.bytes.now) k ≡ false))
 
 abbrev pub decreases-loop-offset : goal.decreases-loop-offset
 decreases-loop-offset l = l.limit - l.offset

@@ -1,17 +1,14 @@
--- `resync::is_boundary` meets its contract. Assumes nothing.
-use borrow.Author.Tests.{lt-ltb, le-ltb}
-use mathlib.Core.Path.{sym, ap, ◌∙◌}
-use Rattle.resync.specs.Boundary.{boundary_at, boundary_told}
+-- `resync::is_boundary` meets its contract: a trace over the limit is refused first. Assumes nothing.
+use borrow.Author.Rules.{rules}
+use Rattle.layout.proofs.Limit.{over}
+use Rattle.std.proofs.lemmas.Result.{err_from_is_err_and}
+use Rattle.resync.proofs.Told.{too_long, judged}
 use Rattle.resync.proofs.is_boundary.Goals as goal
 
-pub returns-then-s-gt-TRACE_LIMIT : goal.returns-then-s-gt-TRACE_LIMIT
-unfolding boundary_at
-returns-then-s-gt-TRACE_LIMIT c = simp (lt-ltb _ _ c.if-s-gt-TRACE_LIMIT.true)
+pub returns-in_err-readable : goal.returns-in_err-readable
+returns-in_err-readable c =
+    let p = err_from_is_err_and c.from_residual.result c.from_residual.ensures.1 in
+    rw (p.1) (too_long _ _ _ _ (over c.in_err-readable.ensures.fits.1))
 
-pub returns-then-begins_run : goal.returns-then-begins_run
-unfolding boundary_at
-returns-then-begins_run c = simp (le-ltb _ _ c.if-s-gt-TRACE_LIMIT.false) (ap (boundary_told 0) (sym c.if-begins_run.true ∙ c.begins_run.ensures))
-
-pub returns-else-begins_run : goal.returns-else-begins_run
-unfolding boundary_at
-returns-else-begins_run c = simp (le-ltb _ _ c.if-s-gt-TRACE_LIMIT.false) (ap (boundary_told 0) (sym c.if-begins_run.false ∙ c.begins_run.ensures))
+pub returns : goal.returns
+returns c = search (rules, judged)

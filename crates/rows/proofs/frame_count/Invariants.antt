@@ -6,8 +6,8 @@ use mathlib.Core.Path.{◌≡◌}
 use Rattle.rows.specs.Frames.{frames_from}
 use Rattle.rows.proofs.frame_count.Given as goal
 
-abbrev pub invariant-loop-at : goal.invariant-loop-at
-invariant-loop-at l = (l.count + length (frames_from l.kind l.outgoing l.payload l.at) ≡ length (frames_from l.kind l.outgoing l.payload 0)) × (l.count ≤ l.at)
+abbrev pub invariant-loop-found : goal.invariant-loop-found
+invariant-loop-found l = (l.count + length (frames_from l.kind l.outgoing l.payload l.at) ≡ length (frames_from l.kind l.outgoing l.payload 0)) × (l.count ≤ l.at)
 
-abbrev pub decreases-loop-at : goal.decreases-loop-at
-decreases-loop-at l = length l.payload - l.at
+abbrev pub decreases-loop-found : goal.decreases-loop-found
+decreases-loop-found l = length l.payload - l.at

@@ -6,8 +6,8 @@ use mathlib.Core.Path.{◌≡◌}
 use Rattle.rows.specs.Frames.{pti_from}
 use Rattle.rows.proofs.next_pti.Given as goal
 
-abbrev pub invariant-loop-from : goal.invariant-loop-from
-invariant-loop-from l = pti_from l.payload l.from ≡ pti_from l.payload l.at
+abbrev pub invariant-loop-body : goal.invariant-loop-body
+invariant-loop-body l = pti_from l.payload l.from ≡ pti_from l.payload l.at
 
-abbrev pub decreases-loop-from : goal.decreases-loop-from
-decreases-loop-from l = length l.payload - l.from
+abbrev pub decreases-loop-body : goal.decreases-loop-body
+decreases-loop-body l = length l.payload - l.from

@@ -1,45 +1,31 @@
 -- `seek::scan_step` meets its contract, by what the search met. Assumes nothing.
+use mir.Syntax.{w64}
+use mir.ValLaws.{to_z-of_z}
 use lib.ListN.{length}
 use mathlib.Core.Bool.{true, false}
-use mathlib.Core.Path.{sym, ap, ◌∙◌}
-use Rattle.record.specs.Record.{plausible}
-use Rattle.seek.proofs.Targets.{plain}
-use Rattle.seek.proofs.Exits.{scan_past, scan_not, scan_met}
-use Rattle.span.specs.Met.{trace_of, meet, told_met}
+use Rattle.std.proofs.lemmas.Result.{err_from_is_err_and}
+use Rattle.seek.proofs.Exits.{scan_past, scan_refused, scan_none, scan_met}
+use Rattle.span.specs.Met.{meet_in}
 use Rattle.seek.proofs.scan_step.Goals as goal
 
-pub returns-then-s-at : goal.returns-then-s-at
-returns-then-s-at c =
-    let s = c in
-    let t = trace_of plausible c.args.kinds.now c.args.s.now in
-    scan_past (meet t) (length c.args.s.now) c.args.target c.args.at c.if-s-at.true
+pub returns-then-trace-at : goal.returns-then-trace-at
+returns-then-trace-at c = scan_past (meet_in c.args.trace.kinds.now c.args.trace.bytes.now) (length c.args.trace.bytes.now) c.args.target c.args.at c.if-trace-at.true
+
+pub returns-in_err-met : goal.returns-in_err-met
+returns-in_err-met c =
+    let p = err_from_is_err_and c.from_residual.result c.from_residual.ensures.1 in
+    rw (p.1, p.2) (scan_refused (meet_in c.args.trace.kinds.now c.args.trace.bytes.now) (length c.args.trace.bytes.now) c.args.target c.args.at c.if-trace-at.false _ c.in_err-met.ensures)
+
+pub returns-in_default : goal.returns-in_default
+returns-in_default c =
+    scan_none (meet_in c.args.trace.kinds.now c.args.trace.bytes.now) (length c.args.trace.bytes.now) c.args.target c.args.at c.if-trace-at.false (rw c.in_default.is at c.in_ok-met.ensures)
 
 pub returns-then-is_earlier : goal.returns-then-is_earlier
 returns-then-is_earlier c =
-    let s = c in
-    let t = trace_of plausible c.args.kinds.now c.args.s.now in
-    scan_met (meet t) (length c.args.s.now) c.args.target c.args.at c.if-s-at.false _ _ _ (ap told_met (sym c.in-At.is) ∙ c.record_near.ensures) true (plain _ c.args.target c.ranges.target _ (sym c.is_earlier.ensures ∙ c.if-is_earlier.true))
+    scan_met (meet_in c.args.trace.kinds.now c.args.trace.bytes.now) (length c.args.trace.bytes.now) c.args.target c.args.at c.if-trace-at.false
+    c.in-Some.met (rw c.in-Some.is at c.in_ok-met.ensures) true (rw (to_z-of_z w64 c.args.target c.ranges.target) at c.if-is_earlier.ensures)
 
-pub returns-else-is_earlier : goal.returns-else-is_earlier
-returns-else-is_earlier c =
-    let s = c in
-    let t = trace_of plausible c.args.kinds.now c.args.s.now in
-    scan_met (meet t) (length c.args.s.now) c.args.target c.args.at c.if-s-at.false _ _ _ (ap told_met (sym c.in-At.is) ∙ c.record_near.ensures) false (plain _ c.args.target c.ranges.target _ (sym c.is_earlier.ensures ∙ c.if-is_earlier.false))
-
-pub returns-in-Nothing : goal.returns-in-Nothing
-returns-in-Nothing c =
-    let s = c in
-    let t = trace_of plausible c.args.kinds.now c.args.s.now in
-    scan_not (meet t) (length c.args.s.now) c.args.target c.args.at c.if-s-at.false 0 (ap told_met (sym c.in-Nothing.is) ∙ c.record_near.ensures)
-
-pub returns-in-TraceTooLong : goal.returns-in-TraceTooLong
-returns-in-TraceTooLong c =
-    let s = c in
-    let t = trace_of plausible c.args.kinds.now c.args.s.now in
-    scan_not (meet t) (length c.args.s.now) c.args.target c.args.at c.if-s-at.false 1 (ap told_met (sym c.in-TraceTooLong.is) ∙ c.record_near.ensures)
-
-pub returns-in-WindowTooLong : goal.returns-in-WindowTooLong
-returns-in-WindowTooLong c =
-    let s = c in
-    let t = trace_of plausible c.args.kinds.now c.args.s.now in
-    scan_not (meet t) (length c.args.s.now) c.args.target c.args.at c.if-s-at.false 5 (ap told_met (sym c.in-WindowTooLong.is) ∙ c.record_near.ensures)
+pub returns : goal.returns
+returns c =
+    scan_met (meet_in c.args.trace.kinds.now c.args.trace.bytes.now) (length c.args.trace.bytes.now) c.args.target c.args.at c.if-trace-at.false
+    c.in-Some.met (rw c.in-Some.is at c.in_ok-met.ensures) false (rw (to_z-of_z w64 c.args.target c.ranges.target) at c.if-is_earlier.ensures)

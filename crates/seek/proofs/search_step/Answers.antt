@@ -1,38 +1,24 @@
 -- `seek::search_step` meets its contract, by what the search from the middle met. Assumes nothing.
-use lib.ListN.{length}
-use mathlib.Core.Path.{sym, ap, ◌∙◌}
 use mir.Syntax.{w64}
-use mir.Val.{to_z, of_z}
-use Rattle.record.specs.Record.{plausible}
-use Rattle.seek.proofs.Targets.{read_back}
-use Rattle.span.proofs.Answers.{unrefused}
-use Rattle.seek.proofs.Exits.{narrow_enough, halving, halving_more}
-use Rattle.span.specs.Met.{trace_of, meet, not_met, told_met}
-use Rattle.seek.specs.Step.{step_of}
-use Rattle.seek.specs.declared.SeekState.TheVariants.{Searching}
+use mir.ValLaws.{to_z-of_z}
+use lib.ListN.{length}
+use native.Mathlib.Omega.{arith}
+use Rattle.std.proofs.lemmas.Result.{err_from_is_err_and}
+use Rattle.seek.proofs.Exits.{narrow_enough, halving_refused, halving_more}
+use Rattle.span.specs.Met.{meet_in}
 use Rattle.seek.proofs.search_step.Goals as goal
 
 pub returns-then-span-le-SEEK_SPAN : goal.returns-then-span-le-SEEK_SPAN
-returns-then-span-le-SEEK_SPAN c =
-    let s = c in
-    let t = trace_of plausible c.args.kinds.now c.args.s.now in
-    narrow_enough (meet t) (length c.args.s.now) c.args.target c.args.lo c.args.hi c.distance-span.result c.distance-span.ensures c.if-span-le-SEEK_SPAN.true
+returns-then-span-le-SEEK_SPAN c = narrow_enough (meet_in c.args.trace.kinds.now c.args.trace.bytes.now) (length c.args.trace.bytes.now) c.args.target c.args.bounds.lo c.args.bounds.hi (omega arith)
 
-pub returns-in-TraceTooLong : goal.returns-in-TraceTooLong
-returns-in-TraceTooLong c =
-    let s = c in
-    let t = trace_of plausible c.args.kinds.now c.args.s.now in
-    halving (meet t) (length c.args.s.now) c.args.target c.args.lo c.args.hi c.distance-span.result c.distance-span.ensures c.if-span-le-SEEK_SPAN.false (not_met 1) (ap told_met (sym c.in-TraceTooLong.is) ∙ c.record_near-met.ensures)
-
-pub returns-in-WindowTooLong : goal.returns-in-WindowTooLong
-returns-in-WindowTooLong c =
-    let s = c in
-    let t = trace_of plausible c.args.kinds.now c.args.s.now in
-    halving (meet t) (length c.args.s.now) c.args.target c.args.lo c.args.hi c.distance-span.result c.distance-span.ensures c.if-span-le-SEEK_SPAN.false (not_met 5) (ap told_met (sym c.in-WindowTooLong.is) ∙ c.record_near-met.ensures)
+pub returns-in_err-met : goal.returns-in_err-met
+returns-in_err-met c =
+    let p = err_from_is_err_and c.from_residual.result c.from_residual.ensures.1 in
+    rw (p.1, p.2)
+    (halving_refused (meet_in c.args.trace.kinds.now c.args.trace.bytes.now) (length c.args.trace.bytes.now) c.args.target c.args.bounds.lo c.args.bounds.hi (omega arith) _ (rw c.middle.ensures at c.in_err-met.ensures))
 
 pub returns : goal.returns
 returns c =
-    let s = c in
-    let t = trace_of plausible c.args.kinds.now c.args.s.now in
-    let n = length c.args.s.now in
-    read_back c.args.target c.ranges.target (λ z. step_of (meet t) n z (Searching c.args.lo c.args.hi)) _ (halving_more (meet t) n (to_z w64 (of_z w64 c.args.target)) c.args.lo c.args.hi c.distance-span.result c.distance-span.ensures c.if-span-le-SEEK_SPAN.false _ c.record_near-met.ensures (unrefused c.record_near-met.result c.in_default.not-TraceTooLong c.in_default-met.not-WindowTooLong) _ _ c.halved-next.ensures.0 c.halved-next.ensures.1)
+    let z = to_z-of_z w64 c.args.target c.ranges.target in
+    halving_more (meet_in c.args.trace.kinds.now c.args.trace.bytes.now) (length c.args.trace.bytes.now) c.args.target c.args.bounds.lo c.args.bounds.hi (omega arith)
+    c.in_ok-met.met (rw c.middle.ensures at c.in_ok-met.ensures) _ _ (rw z at c.halved-lo.ensures.lo) (rw z at c.halved-lo.ensures.hi)

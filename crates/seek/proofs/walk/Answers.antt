@@ -1,48 +1,31 @@
--- `seek::walk` meets its contract. The loop's invariant: the walk from here on answers what the walk from the start does. The target is the number that its bits stand for. Assumes nothing.
+-- `seek::walk` meets its contract. The loop's invariant: the walk from here on answers what the walk from the start does. Assumes nothing.
 use mir.Syntax.{w64}
-use mir.Val.{to_z, of_z}
-use Rattle.seek.proofs.Targets.{read_back}
-use Rattle.span.proofs.Answers.{none_met, meets_of}
-use Rattle.span.proofs.Meets.{met_after}
-use Rattle.seek.proofs.Walks.{at_end, none_met_at, passes, answers}
+use mir.ValLaws.{to_z-of_z}
 use lib.ListN.{length}
-use mathlib.Core.Path.{sym, ap, ◌∙◌}
+use mathlib.Core.Path.{sym, ◌∙◌}
 use native.Mathlib.Omega.{arith}
 use Rattle.record.specs.Record.{plausible}
-use Rattle.span.specs.Met.{trace_of, meet, told_met}
-use Rattle.seek.specs.Seek.{walked}
+use Rattle.seek.proofs.Walks.{none_met_at, passes, answers}
+use Rattle.span.proofs.Answers.{none_met, meets_of}
+use Rattle.span.specs.Met.{meet_in}
 use Rattle.seek.proofs.walk.Goals as goal
-
-pub returns-in_default : goal.returns-in_default
-returns-in_default c =
-    let s = c in
-    let t = trace_of plausible c.args.kinds.now c.args.s.now in
-    let n = length c.args.s.now in
-    read_back c.args.target c.ranges.target (λ z. walked (meet t) n z n c.args.from) _ (sym (c.loop-at.invariant ∙ none_met_at (meet t) n (meets_of plausible c.args.kinds.now c.args.s.now) (to_z w64 (of_z w64 c.args.target)) n c.loop-at.at (none_met c.record_near.result _ c.record_near.ensures c.in_default.not-At)))
 
 pub returns-then-not-is_earlier : goal.returns-then-not-is_earlier
 returns-then-not-is_earlier c =
-    let s = c in
-    let t = trace_of plausible c.args.kinds.now c.args.s.now in
-    let n = length c.args.s.now in
-    read_back c.args.target c.ranges.target (λ z. walked (meet t) n z n c.args.from) _ (sym (c.loop-at.invariant ∙ answers (meet t) n (meets_of plausible c.args.kinds.now c.args.s.now) (to_z w64 (of_z w64 c.args.target)) n c.loop-at.at (omega arith) c.loop-at-test.true _ _ _ (ap told_met (sym c.in-At.is) ∙ c.record_near.ensures) (sym c.is_earlier.ensures ∙ c.if-not-is_earlier.true)))
+    let z = to_z-of_z w64 c.args.target c.ranges.target in
+    sym
+    (rw z at c.loop-met.invariant.1
+    ∙ answers (meet_in c.args.trace.kinds.now c.args.trace.bytes.now) _ (meets_of plausible _ _) c.args.target (length c.args.trace.bytes.now) c.loop-met.at (omega arith) (omega (arith, c.in-Some.ensures.further)) _ _ _ (c.in-Some.ensures.met (omega arith)) (sym (rw z at c.if-not-is_earlier.ensures)))
 
-pub loop-at-smaller : goal.loop-at-smaller
-loop-at-smaller c =
-    let s = c in
-    let t = trace_of plausible c.args.kinds.now c.args.s.now in
-    omega (arith, met_after (meet t) (length c.args.s.now) (meets_of plausible c.args.kinds.now c.args.s.now) c.loop-at.at _ _ _ (ap told_met (sym c.in-At.is) ∙ c.record_near.ensures))
+pub loop-met-preserved : goal.loop-met-preserved
+loop-met-preserved c = (
+  omega (arith, c.in-Some.ensures.further),
+  c.loop-met.invariant.1
+      ∙ passes (meet_in c.args.trace.kinds.now c.args.trace.bytes.now) _ (meets_of plausible _ _) _ (length c.args.trace.bytes.now) c.loop-met.at (omega arith) (omega (arith, c.in-Some.ensures.further)) _ _ _ (c.in-Some.ensures.met (omega arith)) (sym c.if-not-is_earlier.ensures),
+)
 
-pub loop-at-preserved : goal.loop-at-preserved
-loop-at-preserved c =
-    let s = c in
-    let t = trace_of plausible c.args.kinds.now c.args.s.now in
-    let n = length c.args.s.now in
-    c.loop-at.invariant ∙ passes (meet t) n (meets_of plausible c.args.kinds.now c.args.s.now) (to_z w64 (of_z w64 c.args.target)) n c.loop-at.at (omega arith) c.loop-at-test.true _ _ _ (ap told_met (sym c.in-At.is) ∙ c.record_near.ensures) (sym c.is_earlier.ensures ∙ c.if-not-is_earlier.false)
-
-pub returns : goal.returns
-returns c =
-    let s = c in
-    let t = trace_of plausible c.args.kinds.now c.args.s.now in
-    let n = length c.args.s.now in
-    read_back c.args.target c.ranges.target (λ z. walked (meet t) n z n c.args.from) _ (sym (c.loop-at.invariant ∙ at_end (meet t) n (meets_of plausible c.args.kinds.now c.args.s.now) (to_z w64 (of_z w64 c.args.target)) n c.loop-at.at c.loop-at-test.false))
+pub returns-in_default : goal.returns-in_default
+returns-in_default c =
+    sym
+    (rw (to_z-of_z w64 c.args.target c.ranges.target) at c.loop-met.invariant.1
+    ∙ none_met_at (meet_in c.args.trace.kinds.now c.args.trace.bytes.now) _ (meets_of plausible _ _) c.args.target (length c.args.trace.bytes.now) c.loop-met.at (none_met _ _ (c.meet.ensures.met (omega arith)) c.in_default.is))

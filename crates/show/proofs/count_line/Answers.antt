@@ -5,4 +5,11 @@ use Rattle.show.proofs.count_line.Goals as goal
 
 pub returns : goal.returns
 unfolding count_text
-returns c = joined (joined (joined (joined c.put_text-spaces.ensures c.put_kind-name.ensures) c.put_right-first.ensures) c.put_right-second.ensures) c.put_byte.ensures
+returns c =
+    joined
+    (joined
+    (joined
+    (joined c.put_text.ensures c.put_kind.ensures)
+    c.put_right.ensures)
+    c.put_right-2.ensures)
+    c.put_byte.ensures

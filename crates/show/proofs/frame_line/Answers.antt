@@ -3,4 +3,4 @@ use Rattle.text.proofs.Puts.{joined}
 use Rattle.show.proofs.frame_line.Goals as goal
 
 pub returns : goal.returns
-returns c = joined (joined c.put_heard-heard.ensures c.put_numbers-numbers.ensures) c.put_mpdu.ensures
+returns c = joined (joined c.put_heard.ensures c.put_numbers.ensures) c.put_mpdu.ensures

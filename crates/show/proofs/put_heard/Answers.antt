@@ -1,15 +1,21 @@
 -- `show::put_heard` meets its contract: one text after the other. Assumes nothing.
-use lib.IntN.{ℤ}
 use mathlib.Core.Path.{ap}
 use mir.Syntax.{w64}
 use mir.ValLaws.{to_z-of_z}
-use Rattle.text.proofs.Puts.{joined, renamed}
-use Rattle.text.specs.Texts.{signed_text}
-use Rattle.names.specs.Names.{time_text}
-use Rattle.show.specs.Person.{at_right, heard_text}
 use borrow.Author.Rules.{rules}
+use Rattle.names.specs.Names.{time_text}
+use Rattle.text.proofs.Puts.{joined, renamed}
+use Rattle.show.specs.Person.{heard_text}
+use Rattle.show.proofs.Texts.{same_signed}
 use Rattle.show.proofs.put_heard.Goals as goal
 
 pub returns : goal.returns
 unfolding heard_text
-returns c = joined (joined (joined (joined (renamed (ap time_text (to_z-of_z w64 c.args.row.millis (search rules))) c.put_time-time.ensures) (renamed (ap (λ (z : ℤ). at_right 15 (signed_text z)) (to_z-of_z w64 c.args.row.gap (search rules))) c.put_right_signed-gap.ensures)) (renamed c.direction_name-name.ensures c.put_text-side.ensures)) c.put_region-region.ensures) c.put_speed.ensures
+returns c =
+    joined
+    (joined
+    (joined
+    (joined (renamed (ap time_text (to_z-of_z w64 c.args.row.millis (search rules))) c.put_time.ensures) (same_signed 15 (to_z-of_z w64 c.args.row.gap (search rules)) c.put_right_signed.ensures))
+    (renamed c.direction_name.ensures c.put_text.ensures))
+    c.put_region.ensures)
+    c.put_speed.ensures

@@ -3,4 +3,4 @@ use Rattle.text.proofs.Puts.{joined}
 use Rattle.show.proofs.put_named.Goals as goal
 
 pub returns : goal.returns
-returns c = joined c.put_text-next.ensures c.put_decimal.ensures
+returns c = joined c.put_text.ensures c.put_decimal.ensures

@@ -5,4 +5,4 @@ use Rattle.show.proofs.put_rate.Goals as goal
 
 pub returns : goal.returns
 unfolding rate_text
-returns c = joined c.put_byte-next.ensures c.put_speed.ensures
+returns c = joined c.put_byte.ensures c.put_speed.ensures

@@ -4,4 +4,4 @@ use Rattle.show.proofs.Texts.{at_right_of}
 use Rattle.show.proofs.put_right.Goals as goal
 
 pub returns : goal.returns
-returns c = at_right_of _ 0 _ (omega (arith, c.digits.ensures)) c.put_spaces-next.ensures c.put_decimal.ensures
+returns c = at_right_of c.args.width _ (omega (arith, c.saturating_sub.ensures, c.digits.ensures)) c.put_spaces.ensures c.put_decimal.ensures

@@ -1,19 +1,22 @@
--- `show::put_spaces` meets its contract. Assumes nothing.
-use Prim.Native.Nat.{ℕ, ◌-◌}
+-- `show::put_spaces` meets its contract: at each turn the spaces that come on are left to be put. Assumes nothing.
+use Prim.Native.Nat.{ℕ, suc, ◌+◌, ◌-◌}
 use lib.ListN.{replicate}
-use lib.Seq.{length-take-le}
-use mathlib.Core.Path.{◌≡◌, sym, ap, ◌∙◌}
+use mathlib.Core.Path.{◌≡◌, ap}
 use native.Mathlib.Omega.{arith}
-use Rattle.text.proofs.Puts.{renamed}
 use Rattle.text.specs.Texts.{space}
-use Rattle.show.proofs.Texts.{some_spaces}
+use Rattle.text.proofs.Puts.{all_left, less_left, none_left}
 use Rattle.show.proofs.put_spaces.Goals as goal
 
-pub slice_bounds-put_text-end : goal.slice_bounds-put_text-end
-slice_bounds-put_text-end c = sym (length-take-le _ _ (omega arith))
+pub loop-init : goal.loop-init
+loop-init c = let all : c.args.n - 0 ≡ c.args.n = omega arith in rw all (all_left _ _)
+
+pub loop-preserved : goal.loop-preserved
+loop-preserved c =
+    let n = c.args.n in let i = c.loop.counter in
+    let one_less : n - i ≡ suc (n - (i + 1)) = omega arith in
+    less_left c.loop.invariant (ap (λ (k : ℕ). replicate k space) one_less) c.put_byte.ensures
 
 pub returns : goal.returns
 returns c =
-    let a = c.args in
-    let q : c.less-n.result ≡ a.width - a.sign - a.used = omega (arith, c.less.ensures, c.less-n.ensures) in
-    renamed (some_spaces c.less-n.result 20 (omega arith) ∙ ap (λ (n : ℕ). replicate n space) q) c.put_text.ensures
+    let none : c.args.n - c.loop.counter ≡ 0 = omega arith in
+    none_left c.loop.invariant (ap (λ (k : ℕ). replicate k space) none)

@@ -5,4 +5,4 @@ use Rattle.show.proofs.put_stored.Goals as goal
 
 pub returns : goal.returns
 unfolding stored_text
-returns c = joined (joined c.put_hex-byte.ensures c.put_byte-space.ensures) c.put_kind.ensures
+returns c = joined (joined c.put_hex.ensures c.put_byte.ensures) c.put_kind.ensures

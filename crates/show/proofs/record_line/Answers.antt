@@ -5,4 +5,13 @@ use Rattle.show.proofs.record_line.Goals as goal
 
 pub returns : goal.returns
 unfolding record_text
-returns c = joined (joined (joined (joined (joined c.put_when-when.ensures c.put_held-held.ensures) c.put_stored-stored.ensures) c.put_right-payload.ensures) c.put_right-length.ensures) c.put_byte.ensures
+returns c =
+    joined
+    (joined
+    (joined
+    (joined
+    (joined c.put_when.ensures c.put_held.ensures)
+    c.put_stored.ensures)
+    c.put_right.ensures)
+    c.put_right-2.ensures)
+    c.put_byte.ensures

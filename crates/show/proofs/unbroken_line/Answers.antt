@@ -5,4 +5,9 @@ use Rattle.show.proofs.unbroken_line.Goals as goal
 
 pub returns : goal.returns
 unfolding unbroken_text
-returns c = joined (joined (joined c.put_named-from.ensures c.put_named-to.ensures) c.put_named-count.ensures) c.put_byte.ensures
+returns c =
+    joined
+    (joined
+    (joined c.put_named.ensures c.put_named-2.ensures)
+    c.put_named-3.ensures)
+    c.put_byte.ensures

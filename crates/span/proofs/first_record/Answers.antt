@@ -1,16 +1,18 @@
 -- `span::first_record` meets its contract, by what the search for the first record met. Assumes nothing.
-use mathlib.Core.Path.{sym, ap, ◌∙◌}
+use borrow.Author.Rules.{rules}
+use Rattle.layout.proofs.Limit.{over}
+use Rattle.std.proofs.lemmas.Result.{err_from_is_err_and}
 use Rattle.record.specs.Record.{plausible}
-use Rattle.span.proofs.Answers.{not_at}
+use Rattle.span.proofs.Mapped.{mapped}
 use Rattle.span.proofs.Exits.{first_long, first_is}
-use Rattle.span.specs.Met.{trace_of, not_met, told_met}
+use Rattle.span.specs.Met.{trace_of}
 use Rattle.span.proofs.first_record.Goals as goal
 
-pub returns-then-s-gt-TRACE_LIMIT : goal.returns-then-s-gt-TRACE_LIMIT
-returns-then-s-gt-TRACE_LIMIT c = first_long (trace_of plausible c.args.kinds.now c.args.s.now) c.if-s-gt-TRACE_LIMIT.true
-
-pub returns-in_default : goal.returns-in_default
-returns-in_default c = first_is (trace_of plausible c.args.kinds.now c.args.s.now) c.if-s-gt-TRACE_LIMIT.false (not_met (not_at c.record_near.result c.in_default.not-At).0) (sym (not_at c.record_near.result c.in_default.not-At).1 ∙ c.record_near.ensures)
+pub returns-in_err-readable : goal.returns-in_err-readable
+returns-in_err-readable c =
+    let p = err_from_is_err_and c.from_residual.result c.from_residual.ensures.1 in
+    rw (p.1) (first_long (trace_of plausible c.args.trace.kinds.now c.args.trace.bytes.now) (over c.in_err-readable.ensures.fits.1))
 
 pub returns : goal.returns
-returns c = first_is (trace_of plausible c.args.kinds.now c.args.s.now) c.if-s-gt-TRACE_LIMIT.false _ (ap told_met (sym c.in-At.is) ∙ c.record_near.ensures)
+returns c =
+    first_is (trace_of plausible c.args.trace.kinds.now c.args.trace.bytes.now) (search rules) c.meet.result (search rules) c.map.result (mapped _ _ _ (search rules))

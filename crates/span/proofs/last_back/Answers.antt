@@ -1,35 +1,29 @@
 -- `span::last_back` meets its contract. The loop's invariant: walking back from here on answers what walking back from the first place does. Assumes nothing.
-use lib.IntN.{pos}
-use lib.ListN.{length}
-use mathlib.Core.Option.{some}
-use mathlib.Core.Path.{refl, sym, ap, ◌∙◌}
+use mathlib.Core.Path.{sym, ap, ◌∙◌}
 use native.Mathlib.Omega.{arith}
 use Rattle.record.specs.Record.{plausible}
+use Rattle.std.specs.Prelude.{Some}
 use Rattle.span.proofs.Answers.{none_met, meets_of}
 use Rattle.span.proofs.Spans.{met_there, none_there, further_there}
-use Rattle.span.specs.Met.{trace_of, meet, told_met}
-use Rattle.span.specs.Span.{span_to}
+use Rattle.span.specs.Met.{meet_in}
 use Rattle.span.proofs.last_back.Goals as goal
 
-pub loop-next_offset-init : goal.loop-next_offset-init
-loop-next_offset-init c = (omega arith, refl)
+pub returns-in-Some : goal.returns-in-Some
+returns-in-Some c =
+    sym
+    (c.loop-met.invariant.1
+    ∙ met_there (meet_in c.args.trace.kinds.now c.args.trace.bytes.now) _ (meets_of plausible _ _) _ c.loop-met.back _ c.distance.ensures _ _ _ (c.in-Some.ensures.met (omega arith))
+    ∙ ap (λ z. Some z) (sym c.last_time.ensures))
 
-pub returns-in-At : goal.returns-in-At
-returns-in-At c = sym
-    (ap (span_to (pos c.args.first))
-    (c.loop-next_offset.invariant.1
-    ∙ met_there (meet (trace_of plausible c.args.kinds.now c.args.s.now)) (length c.args.s.now) (meets_of plausible c.args.kinds.now c.args.s.now) (length c.args.s.now) c.loop-next_offset.back c.distance.result c.distance.ensures _ _ _ (ap told_met (sym c.in-At.is) ∙ c.record_near.ensures)
-    ∙ ap (λ z. some z) (sym c.last_time.ensures)))
+pub returns-then-len-back : goal.returns-then-len-back
+returns-then-len-back c =
+    sym
+    (c.loop-met.invariant.1
+    ∙ none_there (meet_in c.args.trace.kinds.now c.args.trace.bytes.now) _ (meets_of plausible _ _) _ c.loop-met.back _ c.distance.ensures (none_met _ _ (c.meet.ensures.met (omega arith)) c.in_default.is) c.if-len-back.true)
 
-pub returns-then-s-back : goal.returns-then-s-back
-returns-then-s-back c = sym
-    (ap (span_to (pos c.args.first))
-    (c.loop-next_offset.invariant.1
-    ∙ none_there (meet (trace_of plausible c.args.kinds.now c.args.s.now)) (length c.args.s.now) (meets_of plausible c.args.kinds.now c.args.s.now) (length c.args.s.now) c.loop-next_offset.back c.distance.result c.distance.ensures (none_met c.record_near.result _ c.record_near.ensures c.in_default.not-At) c.if-s-back.true))
-
-pub loop-next_offset-preserved : goal.loop-next_offset-preserved
-loop-next_offset-preserved c = (
+pub loop-met-preserved : goal.loop-met-preserved
+loop-met-preserved c = (
   omega arith,
-  c.loop-next_offset.invariant.1
-      ∙ further_there (meet (trace_of plausible c.args.kinds.now c.args.s.now)) (length c.args.s.now) (meets_of plausible c.args.kinds.now c.args.s.now) (length c.args.s.now) c.loop-next_offset.back c.distance.result c.distance.ensures c.loop-next_offset.invariant.0 (omega arith) (none_met c.record_near.result _ c.record_near.ensures c.in_default.not-At) c.if-s-back.false,
+  c.loop-met.invariant.1
+      ∙ further_there (meet_in c.args.trace.kinds.now c.args.trace.bytes.now) _ (meets_of plausible _ _) _ c.loop-met.back _ c.distance.ensures c.loop-met.invariant.0 (omega arith) (none_met _ _ (c.meet.ensures.met (omega arith)) c.in_default.is) c.if-len-back.false,
 )

@@ -2,13 +2,15 @@
 use Prim.Native.Nat.{suc, ◌-◌, ◌<◌}
 use lib.ListN.{length}
 use mathlib.Core.Path.{◌≡◌}
-use Rattle.record.specs.Record.{plausible}
-use Rattle.span.specs.Met.{trace_of, meet}
+use Rattle.span.specs.Met.{meet_in}
 use Rattle.span.specs.Span.{last_back}
 use Rattle.span.proofs.last_back.Given as goal
 
-abbrev pub invariant-loop-next_offset : goal.invariant-loop-next_offset
-invariant-loop-next_offset l = (0 < l.back) × (last_back (meet (trace_of plausible l.kinds l.s)) (length l.s) (suc (length l.s)) 1048576 ≡ last_back (meet (trace_of plausible l.kinds l.s)) (length l.s) (suc (length l.s)) l.back)
+abbrev pub invariant-loop-met : goal.invariant-loop-met
+invariant-loop-met l =
+    (0 < l.back)
+    × (last_back (meet_in l.trace.kinds.now l.trace.bytes.now) (length l.trace.bytes.now) (suc (length l.trace.bytes.now)) 1048576
+    ≡ last_back (meet_in l.trace.kinds.now l.trace.bytes.now) (length l.trace.bytes.now) (suc (length l.trace.bytes.now)) l.back)
 
-abbrev pub decreases-loop-next_offset : goal.decreases-loop-next_offset
-decreases-loop-next_offset l = length l.s - l.back
+abbrev pub decreases-loop-met : goal.decreases-loop-met
+decreases-loop-met l = length l.trace.bytes.now - l.back

@@ -1,27 +1,11 @@
--- `span::record_near` meets its contract: what is found always has a record. Assumes nothing.
-use mathlib.Core.Path.{refl, sym, ap, ◌∙◌}
-use Rattle.record.proofs.Answers.{not_valid}
-use Rattle.resync.proofs.Times.{has_record}
-use Rattle.record.specs.Record.{plausible, told_record}
-use Rattle.resync.specs.Search.{told_search}
-use Rattle.record.specs.declared.Record.TheVariants.{Valid}
-use Rattle.span.proofs.Answers.{no_record, one_record}
+-- `span::record_near` meets its contract: a trace over the limit is refused first. Assumes nothing.
+use Rattle.layout.proofs.Limit.{over}
+use Rattle.std.proofs.lemmas.Result.{err_from_is_err_and}
+use Rattle.resync.proofs.Searched.{trace_too_long}
+use Rattle.span.proofs.Answers.{no_record}
 use Rattle.span.proofs.record_near.Goals as goal
 
-pub returns-in_default : goal.returns-in_default
-returns-in_default c = absurd
-    (has_record plausible c.args.kinds.now c.args.s.now c.args.from _ _ (ap told_search (sym c.in-Found.is) ∙ c.next_record_at.ensures) _ c.read_record.ensures
-    (not_valid c.read_record.result c.in_default.not-Valid))
-
-pub returns-in-Valid : goal.returns-in-Valid
-returns-in-Valid c = one_record plausible c.args.kinds.now c.args.s.now c.args.from _ _ (ap told_search (sym c.in-Found.is) ∙ c.next_record_at.ensures)
-    (told_record (Valid c.in-Valid.header)) (ap told_record (sym c.in-Valid.is) ∙ c.read_record.ensures) _ _ refl refl refl
-
-pub returns-in-Nothing : goal.returns-in-Nothing
-returns-in-Nothing c = no_record plausible c.args.kinds.now c.args.s.now c.args.from 0 _ (ap told_search (sym c.in-Nothing.is) ∙ c.next_record_at.ensures)
-
-pub returns-in-TraceTooLong : goal.returns-in-TraceTooLong
-returns-in-TraceTooLong c = no_record plausible c.args.kinds.now c.args.s.now c.args.from 1 _ (ap told_search (sym c.in-TraceTooLong.is) ∙ c.next_record_at.ensures)
-
-pub returns-in-WindowTooLong : goal.returns-in-WindowTooLong
-returns-in-WindowTooLong c = no_record plausible c.args.kinds.now c.args.s.now c.args.from 5 _ (ap told_search (sym c.in-WindowTooLong.is) ∙ c.next_record_at.ensures)
+pub returns-in_err-readable : goal.returns-in_err-readable
+returns-in_err-readable c =
+    let p = err_from_is_err_and c.from_residual.result c.from_residual.ensures.1 in
+    rw (p.1, p.2) (no_record _ _ _ _ 1 0 (trace_too_long _ _ _ _ (over c.in_err-readable.ensures.fits.1)))

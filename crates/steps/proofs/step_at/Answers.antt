@@ -1,16 +1,7 @@
--- `steps::step_at` meets its contract. Assumes nothing.
-use mathlib.Core.Path.{◌∙◌}
-use Rattle.record.specs.Record.{plausible}
-use Rattle.steps.specs.declared.StepAnswer.TheVariants.{NoSuchPlace}
-use Rattle.steps.proofs.Placing.{none_told}
-use Rattle.steps.proofs.Stepping.{sound_of, no_place, one_from}
+-- `steps::step_at` meets its contract: a trace over the limit is refused first. Assumes nothing.
+use Rattle.layout.proofs.Limit.{over}
+use Rattle.steps.proofs.Stepping.{too_long}
 use Rattle.steps.proofs.step_at.Goals as goal
 
-pub returns-then-p : goal.returns-then-p
-returns-then-p c = none_told c.args.s.now _ NoSuchPlace _ c.no_step.ensures ∙ no_place plausible _ _ _ c.if-p.true
-
-pub step_from-requires : goal.step_from-requires
-step_from-requires c = sound_of _ c.if-p.false
-
-pub returns : goal.returns
-returns c = c.step_from.ensures ∙ one_from plausible _ _ _ c.if-p.false
+pub returns-in_err-readable : goal.returns-in_err-readable
+returns-in_err-readable c = too_long _ _ _ _ (over c.in_err-readable.ensures.fits.1) c.from_residual.result c.from_residual.ensures

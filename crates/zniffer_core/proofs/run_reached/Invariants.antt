@@ -8,8 +8,8 @@ use Rattle.zniffer_tests.specs.Tests.{reachable_of}
 use Rattle.zniffer_core.specs.Run.{core_run_from}
 use Rattle.zniffer_core.proofs.run_reached.Given as goal
 
-abbrev pub invariant-loop-i : goal.invariant-loop-i
-invariant-loop-i l = (l.i ≤ length l.s) × (reachable_of l.q ≡ true) × (core_run_from l.i (drop l.i l.s) l.q ≡ core_run_from 0 l.s l.initial.q)
+abbrev pub invariant-loop-value : goal.invariant-loop-value
+invariant-loop-value l = (l.used ≤ length l.s) × (reachable_of l.q ≡ true) × (core_run_from l.used (drop l.used l.s) l.q ≡ core_run_from 0 l.s l.initial.q)
 
-abbrev pub decreases-loop-i : goal.decreases-loop-i
-decreases-loop-i l = length l.s - l.i
+abbrev pub decreases-loop-value : goal.decreases-loop-value
+decreases-loop-value l = length l.s - l.used

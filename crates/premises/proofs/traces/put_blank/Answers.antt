@@ -3,7 +3,4 @@ use Rattle.text.proofs.Puts.{joined}
 use Rattle.premises.proofs.traces.put_blank.Goals as goal
 
 pub returns : goal.returns
-returns c =
-    joined c.put_head-start.ensures
-    (joined c.put_zeros-payload.ensures
-    c.put_byte.ensures)
+returns c = joined c.put_head.ensures (joined c.put_zeros.ensures c.put_byte.ensures)

@@ -8,7 +8,7 @@ use Rattle.premises.proofs.traces.put_distant.Goals as goal
 pub returns : goal.returns
 unfolding distant
 returns c =
-    joined c.put_header-start.ensures
-    (joined c.put_zeros-far.ensures
-    (joined (renamed (ap (λ (t : ℕ). blank t 1) c.second.ensures) c.put_blank-one.ensures)
-    (renamed (ap (λ (t : ℕ). blank t 1) c.second-2.ensures) c.put_blank.ensures)))
+    joined c.put_header.ensures
+    (joined c.put_zeros.ensures
+    (joined (renamed (ap (λ (t : ℕ). blank t 1) c.second.ensures) c.put_blank.ensures)
+    (renamed (ap (λ (t : ℕ). blank t 1) c.second-2.ensures) c.put_blank-2.ensures)))

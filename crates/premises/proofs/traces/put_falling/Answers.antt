@@ -8,6 +8,6 @@ use Rattle.premises.proofs.traces.put_falling.Goals as goal
 pub returns : goal.returns
 unfolding falling
 returns c =
-    joined c.put_header-start.ensures
-    (joined (renamed (ap (λ (t : ℕ). blank t 40001) c.second.ensures) c.put_blank-one.ensures)
-    (renamed (ap (λ (t : ℕ). blank t 40001) c.second-2.ensures) c.put_blank.ensures))
+    joined c.put_header.ensures
+    (joined (renamed (ap (λ (t : ℕ). blank t 40001) c.second.ensures) c.put_blank.ensures)
+    (renamed (ap (λ (t : ℕ). blank t 40001) c.second-2.ensures) c.put_blank-2.ensures))

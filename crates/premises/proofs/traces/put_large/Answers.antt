@@ -8,7 +8,7 @@ use Rattle.premises.proofs.traces.put_large.Goals as goal
 pub returns : goal.returns
 unfolding large
 returns c =
-    joined c.put_header-start.ensures
-    (joined (renamed (ap (λ (t : ℕ). blank t 1048576) c.second.ensures) c.put_blank-one.ensures)
-    (joined (renamed (ap (λ (t : ℕ). blank t 1048576) c.second-2.ensures) c.put_blank-two.ensures)
-    (renamed (ap (λ (t : ℕ). blank t 1048576) c.second-3.ensures) c.put_blank.ensures)))
+    joined c.put_header.ensures
+    (joined (renamed (ap (λ (t : ℕ). blank t 1048576) c.second.ensures) c.put_blank.ensures)
+    (joined (renamed (ap (λ (t : ℕ). blank t 1048576) c.second-2.ensures) c.put_blank-2.ensures)
+    (renamed (ap (λ (t : ℕ). blank t 1048576) c.second-3.ensures) c.put_blank-3.ensures)))

@@ -8,8 +8,8 @@ use Rattle.premises.proofs.traces.put_tail.Goals as goal
 pub returns : goal.returns
 unfolding tail
 returns c =
-    joined c.put_header-start.ensures
-    (joined (renamed (ap (λ (t : ℕ). blank t 1) c.second.ensures) c.put_blank-one.ensures)
-    (joined (renamed (ap (λ (t : ℕ). blank t 1) c.second-2.ensures) c.put_blank-two.ensures)
-    (joined (renamed (ap (λ (t : ℕ). blank t 1) c.second-3.ensures) c.put_blank-three.ensures)
+    joined c.put_header.ensures
+    (joined (renamed (ap (λ (t : ℕ). blank t 1) c.second.ensures) c.put_blank.ensures)
+    (joined (renamed (ap (λ (t : ℕ). blank t 1) c.second-2.ensures) c.put_blank-2.ensures)
+    (joined (renamed (ap (λ (t : ℕ). blank t 1) c.second-3.ensures) c.put_blank-3.ensures)
     c.put_byte.ensures)))

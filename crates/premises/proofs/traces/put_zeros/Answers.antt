@@ -1,18 +1,12 @@
--- `premises::traces::put_zeros` meets its contract: at each turn the rest of the zeros is left to be put. Assumes nothing.
-use borrow.Author.Rules.{rules}
-use mathlib.Core.Path.{refl}
-use native.Mathlib.Omega.{arith}
-use Rattle.text.proofs.Puts.{all_left, less_left, none_left}
-use Rattle.premises.proofs.Turns.{one_zero, no_zeros}
+-- `premises::traces::put_zeros` meets its contract: so many zeros are put as there were turns. Assumes nothing.
+use Rattle.text.proofs.Puts.{nothing, joined, renamed}
+use Rattle.plain_examples.specs.Traces.{zeros}
+use Rattle.premises.proofs.Turns.{one_more_zero}
 use Rattle.premises.proofs.traces.put_zeros.Goals as goal
 
-pub loop-left-init : goal.loop-left-init
-loop-left-init c = (refl, all_left _ _ _)
+pub loop-init : goal.loop-init
+unfolding zeros
+loop-init c = nothing _
 
-pub loop-left-preserved : goal.loop-left-preserved
-loop-left-preserved c =
-    let loop = c.loop-left in
-    (search rules, less_left loop.invariant.1 (one_zero loop.left (omega arith)) c.put_byte-next.ensures)
-
-pub returns : goal.returns
-returns c = none_left c.loop-left.invariant.1 (no_zeros _ (omega arith))
+pub loop-preserved : goal.loop-preserved
+loop-preserved c = renamed (one_more_zero c.loop.counter) (joined c.loop.invariant c.put_byte.ensures)

@@ -1,12 +1,7 @@
--- `premises::traces::put_zeros` meets its contract: at each turn the rest of the zeros is left to be put. Assumes nothing.
-use lib.ListN.{length}
-use mathlib.Core.Path.{◌≡◌}
-use Rattle.text.proofs.Puts.{Left}
+-- `premises::traces::put_zeros` meets its contract: so many zeros are put as there were turns. Assumes nothing.
+use Rattle.text.specs.Put.{Puts}
 use Rattle.plain_examples.specs.Traces.{zeros}
 use Rattle.premises.proofs.traces.put_zeros.Given as goal
 
-abbrev pub invariant-loop-left : goal.invariant-loop-left
-invariant-loop-left l = (length l.out ≡ length l.initial.out) × Left (zeros l.n) l.initial.out l.at (zeros l.left) l.out l.next
-
-abbrev pub decreases-loop-left : goal.decreases-loop-left
-decreases-loop-left l = l.left
+abbrev pub invariant-loop : goal.invariant-loop
+invariant-loop l = Puts (zeros l.counter) l.initial.out l.out

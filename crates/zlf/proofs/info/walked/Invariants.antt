@@ -5,12 +5,19 @@ use lib.ListN.{length, get_or}
 use mathlib.Core.Path.{◌≡◌}
 use Rattle.layout.specs.Layout.{header_size}
 use Rattle.record.specs.Record.{plausible, next_at}
+use Rattle.zlf.specs.Totals.{nothing}
 use Rattle.zlf.proofs.Passing.{Passed}
 use Rattle.zlf.proofs.Sums.{Sums}
 use Rattle.zlf.proofs.info.walked.Given as goal
 
-abbrev pub invariant-loop-at : goal.invariant-loop-at
-invariant-loop-at l = Passed (next_at plausible l.kinds l.s) (length l.s) header_size l.at l.n × ((k : ℕ) → Sums l.kinds l.s k (get_or l.t.records k 0) (get_or l.t.frames k 0) l.at) × (length l.t.records ≡ 5) × (length l.t.frames ≡ 5)
+abbrev pub invariant-loop-found : goal.invariant-loop-found
+invariant-loop-found l =
+    let kinds = l.opened.trace.kinds.now in let s = l.opened.trace.bytes.now in
+    record {
+      passed : Passed (next_at plausible kinds s) (length s) header_size l.at l.records;
+      sums : (k : ℕ) → Sums kinds s k (get_or l.counts k nothing) l.at;
+      kinds : length l.counts ≡ 5;
+    }
 
-abbrev pub decreases-loop-at : goal.decreases-loop-at
-decreases-loop-at l = length l.s - l.at
+abbrev pub decreases-loop-found : goal.decreases-loop-found
+decreases-loop-found l = length l.opened.trace.bytes.now - l.at

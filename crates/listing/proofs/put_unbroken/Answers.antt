@@ -1,6 +1,0 @@
--- `listing::put_unbroken` meets its contract. Assumes nothing.
-use Rattle.lines.proofs.Lines.{fields, line}
-use Rattle.listing.proofs.put_unbroken.Goals as goal
-
-pub returns : goal.returns
-returns c = line c.put_byte-letter.ensures (fields c.put_field-from.ensures c.put_field-count.ensures) c.put_byte.ensures
