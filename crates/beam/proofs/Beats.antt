@@ -19,6 +19,19 @@ same_start [] (y ∷ xs) = refl
 same_start (x ∷ pattern) [] = refl
 same_start (x ∷ pattern) (y ∷ xs) = ap (λ (b : Bool). eqb x y && b) (same_start pattern xs)
 
+-- a pattern that is longer than what is left does not match
+too_long : (pattern xs : List ℕ) → length xs < length pattern → starts pattern xs ≡ false
+unfolding starts
+too_long [] xs h = absurd (omega arith)
+too_long (x ∷ pattern) [] h = refl
+too_long (x ∷ pattern) (y ∷ xs) h = simp (too_long pattern xs (omega arith), and-false)
+
+-- where less is left than the pattern, nothing more is counted
+pub no_room : (pattern : List ℕ) (size : ℕ) (xs : List ℕ) → length xs < length pattern → repeats (starts_marked pattern) size 0 xs ≡ 0
+unfolding repeats
+no_room pattern size [] h = refl
+no_room pattern size (x ∷ xs) h = simp (too_long pattern (x ∷ xs) h, and-false) (no_room pattern size xs (omega arith))
+
 -- the bytes of the last match that are still to be passed are dropped
 dropped : (matches : List ℕ → Bool) (size left : ℕ) (xs : List ℕ) → repeats matches size left xs ≡ repeats matches size 0 (drop left xs)
 unfolding repeats
@@ -74,10 +87,8 @@ module _ (pattern : List ℕ) where
   pub other : (rest : List ℕ) → false ≡ starts_with eqb rest pattern → starts_marked pattern rest ≡ false
   other rest e = simp (← same_start pattern rest, ← e, and-false)
 
-  pub ended : (size count : ℕ) (rest : List ℕ) → length rest < 1 → count ≤ 65535 → count ≡ total pattern size count rest
-  unfolding repeats
-  ended size count [] e h = omega arith
-  ended size count (x ∷ xs) e h = absurd (omega arith)
+  pub ended : (size count : ℕ) (rest : List ℕ) → length rest < size → size ≤ length pattern → count ≤ 65535 → count ≡ total pattern size count rest
+  ended size count rest e l h = let none = no_room pattern size rest (omega arith) in omega (arith, none)
 
 -- what a turn does, and the ways out
 pub ruleset turns = (empty_pattern, cut, begun, one_hit, one_miss, unmarked, other, ended)

@@ -23,7 +23,10 @@ pub fn beam_count(frame_length: usize, data: &[u8]) -> u16
         return 1;
     };
     let mut count: u16 = 1;
-    while let [first, after @ ..] = rest {
+    // Where less is left than the pattern, no repeat is.
+    while frame_length <= rest.len()
+        && let [first, after @ ..] = rest
+    {
         if *first == BEAM_MARKER && rest.starts_with(pattern) {
             count = count.saturating_add(1);
             rest = &rest[frame_length..];

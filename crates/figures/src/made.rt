@@ -70,10 +70,17 @@ impl<'a> Made<'a> {
         }
     }
 
+    // Kept: a place of its own, as in `put_again`. The lent one would be read and written in memory at each byte.
     fn put_zeros(&mut self, count: u64) {
+        let at = self.out.at;
+        let mut out = Out {
+            bytes: self.out.bytes,
+            at,
+        };
         for _ in 0..count {
-            self.out.put_byte(0);
+            out.put_byte(0);
         }
+        self.out.at = out.at;
     }
 
     // What stands before a record's payload: ticks, properties, length.
@@ -85,11 +92,17 @@ impl<'a> Made<'a> {
 
     // The bytes from so far back, over and over, so many in all.
     fn put_again(&mut self, back: usize, count: u64) {
+        let at = self.out.at;
+        let mut out = Out {
+            bytes: self.out.bytes,
+            at,
+        };
         for _ in 0..count {
-            let from = self.out.at.wrapping_sub(back);
-            let b = layout::u8_at(self.out.bytes, from);
-            self.out.put_byte(b);
+            let from = out.at.wrapping_sub(back);
+            let b = layout::u8_at(out.bytes, from);
+            out.put_byte(b);
         }
+        self.out.at = out.at;
     }
 }
 

@@ -38,8 +38,8 @@ fn ask(rt: &impl Print, letter: u8, trace: Trace, n: Numbers) -> io::Result<()> 
     let c = n.c as usize;
     match letter {
         b'o' => pages::opening(rt, seam::open(s, line::low32(n.c))),
-        b'f' => pages::page(rt, cursor::frames_table(trace, b, c).page),
-        b'R' => pages::row(rt, cursor::frames_table(trace, b, c).rows[0]),
+        b'f' => pages::page_of_table(rt, trace, b, c),
+        b'R' => pages::first_row(rt, trace, b, c),
         b'u' => pages::seam(rt, seam::seam_check(trace, c)),
         b'r' => say::whether(rt, matches!(record::read_record(trace, c), Ok(Some(_)))),
         b'B' => say::whether(rt, matches!(resync::is_boundary(trace, c), Ok(true))),

@@ -1,5 +1,6 @@
 // Openings, pages and the seam check.
 use crate::say;
+use layout::Trace;
 use paging::{Page, PageError};
 use rows::Row;
 use seam::{OpenError, Seam, SeamError};
@@ -27,7 +28,7 @@ pub fn seam(rt: &impl Print, answer: Result<Seam, SeamError>) -> io::Result<()> 
 }
 
 // A page: its start, how many rows it has, and the next place.
-pub fn page(rt: &impl Print, answer: Result<Page, PageError>) -> io::Result<()> {
+fn page(rt: &impl Print, answer: Result<Page, PageError>) -> io::Result<()> {
     match answer {
         Ok(Page { start, size, next }) => {
             print!(rt; " {start} {size}")?;
@@ -37,8 +38,19 @@ pub fn page(rt: &impl Print, answer: Result<Page, PageError>) -> io::Result<()> 
     }
 }
 
+// The page of a table of 600 rows.
+// Kept: a function of its own, as `first_row`. The table's room is zeroed wherever a function that has it begins, and `ask` begins at each line.
+pub fn page_of_table(rt: &impl Print, trace: Trace, offset: usize, count: usize) -> io::Result<()> {
+    page(rt, cursor::frames_table(trace, offset, count).page)
+}
+
+// The table's first row.
+pub fn first_row(rt: &impl Print, trace: Trace, offset: usize, count: usize) -> io::Result<()> {
+    row(rt, cursor::frames_table(trace, offset, count).rows[0])
+}
+
 // A row's fields in order, R or T for direction.
-pub fn row(rt: &impl Print, r: Row) -> io::Result<()> {
+fn row(rt: &impl Print, r: Row) -> io::Result<()> {
     print!(rt;
         " {} {} {} {} {} {} {} {} {} {} {} {}",
         r.record,

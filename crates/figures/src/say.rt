@@ -1,6 +1,8 @@
 // What is said in more than one place: fields with a space before each.
+use crate::made;
 use layout::Refusal;
 use std::io;
+use text::Out;
 
 // A number, or that nothing was found.
 pub fn found(rt: &impl Print, n: Option<usize>) -> io::Result<()> {
@@ -19,11 +21,19 @@ pub fn refused(rt: &impl Print, refusal: impl Refusal) -> io::Result<()> {
     print!(rt; " R {}", refusal.number())
 }
 
-// Bytes in hexadecimal, or - where there is none.
+// Bytes in hexadecimal, or - where there is none. They go in one write; a payload has no more than 255.
 pub fn hex(rt: &impl Print, bytes: &[u8]) -> io::Result<()> {
-    print!(rt; "{}", if bytes.is_empty() { " -" } else { " " })?;
-    for b in bytes {
-        print!(rt; "{b:02X}")?;
+    let mut digits = [0u8; 511];
+    let mut out = Out {
+        bytes: &mut digits,
+        at: 0,
+    };
+    out.put_byte(b' ');
+    if bytes.is_empty() {
+        out.put_byte(b'-');
+    } else {
+        out.put_hex(bytes);
     }
-    Ok(())
+    let len = out.at;
+    rt.write_all(made::part(&digits, len))
 }

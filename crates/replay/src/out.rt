@@ -75,7 +75,7 @@ pub fn digits<F: Fn(u8) -> u8>(out: &mut impl Write, digit: F) -> fmt::Result
 {
     out.write_str(" ")?;
     for b in 0..=u8::MAX {
-        write!(out, "{}", digit(b) % 10)?;
+        out.write_char(char::from(b'0' + digit(b) % 10))?;
     }
     Ok(())
 }

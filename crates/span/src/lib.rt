@@ -1,6 +1,7 @@
 // The first record of a trace, and its span: first_record and time_span of cursor.rs.
 //
-// A record is found by a search from a place, and read once: `record_near` is what the span and the seeks see of a trace.
+// A record is found by a search from a place, and read once: `record_from` and `meet` are what the span and the seeks see of a trace,
+// `record_near` the same of any trace.
 #![tactic(auto)]
 
 ghost use Rattle.std.specs.Prelude.{◌≡◌, suc, ◌-◌, ◌<◌, ◌≤◌, pos, length, Ok, IfSome, option_map};

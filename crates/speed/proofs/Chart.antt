@@ -61,6 +61,10 @@ undrawn channel region h k =
     off channel region
     (simp (le-ltb (key_of channel region % 256) 18 (let m : key_of channel region % 256 ≡ region = omega arith in omega arith), and-false))
 
+-- so from region 32 on, below the chart
+pub below : (channel region : ℕ) → 32 ≤ region → region < 256 → 0 ≡ speed_for channel region
+below channel region h k = undrawn channel region (omega arith) k
+
 -- the rows of which nothing is drawn
 pub blank_first : (region : ℕ) → region ≡ 0 → (0 ∷ 0 ∷ 0 ∷ 0 ∷ []) ≡ row_for region
 unfolding speed_for among

@@ -1,3 +1,4 @@
 pub mod Chart
 pub mod Facts
+pub mod Refusals
 pub mod Totals

@@ -1,5 +1,7 @@
 // Pages of frames, each with its edges and its mark.
-ghost use Rattle.std.specs.Prelude.{◌≡◌};
+ghost use Rattle.std.specs.Prelude.{◌≡◌, None, cond, eqb};
+ghost use Rattle.paging.specs.Page.{page_at};
+ghost use Rattle.record.specs.Record.{plausible};
 
 use crate::answer::{Opened, Query};
 use crate::facts::Facts;
@@ -79,16 +81,18 @@ fn put_edges(lines: &mut Lines, page: Page) {
     }
 }
 
-// The lines of a page, its edges and its mark.
-fn put_page(lines: &mut Lines, trace: Trace, page: Page, rows: &[Row], mark: Mark) {
+// The lines of a page, its edges and its mark, which is from the page's start.
+fn put_page(lines: &mut Lines, page: Page, rows: &[Row], mark: Mark)
+    requires { mark.place ≡ page.start }
+{
     lines.spill();
     lines.put_heading(
         b"time (UTC)                       gap ms way region   rate  ch  RSSI  beams      record  pos  MPDU\n",
     );
-    put_rows(lines, trace, rows);
+    put_rows(lines, mark.trace, rows);
     lines.spill();
     put_edges(lines, page);
-    put_mark(lines, mark.seam, page.start, trace.bytes.len());
+    put_mark(lines, mark.seam, mark.place, mark.trace.bytes.len());
 }
 
 // Where a walk over pages stands: the next page's offset, if there is a next page; the mark of the last one; and the worst status.
@@ -100,9 +104,12 @@ struct Walk<'a> {
     status: u8,
 }
 
-// The page at an offset: its lines, its edges and its mark.
+// The page at an offset: its lines, its edges and its mark. Where there is no page, the mark stays as it was.
 fn turned<'a>(query: Query, walk: Walk<'a>, offset: usize, lines: &mut Lines) -> Walk<'a>
-    ensures { result.mark.trace ≡ walk.entry.mark.trace }
+    ensures trace { result.mark.trace ≡ walk.entry.mark.trace }
+    ensures place { let mark = walk.entry.mark in
+        let page = (page_at plausible mark.trace.kinds.now mark.trace.bytes.now None offset query.entry.ask.count 600).told in
+        result.mark.place ≡ cond (eqb page.refusal 0) page.start mark.place }
 {
     let trace = walk.mark.trace;
     let table = cursor::frames_table(trace, offset, query.ask.count as usize);
@@ -119,7 +126,7 @@ fn turned<'a>(query: Query, walk: Walk<'a>, offset: usize, lines: &mut Lines) ->
     };
     let mark = walk.mark.later(page.start);
     let rows = table.rows.get(..page.size).unwrap_or(&table.rows);
-    put_page(lines, trace, page, rows, mark);
+    put_page(lines, page, rows, mark);
     Walk {
         next: page.next,
         mark,

@@ -1,18 +1,21 @@
 // Refusals and bad calls: one plain line on standard error.
+ghost use Rattle.std.specs.Prelude.{◌≡◌};
+ghost use Rattle.zlf.specs.Refusals.{refusal_text, opening_facts};
+
 use crate::facts::Facts;
 use crate::{facts, out};
 use layout::Refusal;
 use std::io::{Cursor, Error, Write};
 use text::Out;
 
-// A refusal or a bad call, which has been told: the program ends with 2.
+// A refusal or a bad call, which has been told: the program ends with 2. The field is private, so that only this module makes one.
 #[derive(Clone, Copy, Debug, PartialEq, Eq)]
-pub struct Refused;
+pub struct Refused(());
 
 // Writes a line.
 fn told(rt: &HostRuntime, line: &Out) -> Refused {
     let _ = rt.stderr().write_all(out::first(line.bytes, line.at));
-    Refused
+    Refused(())
 }
 
 // A line: a text, a name, and a text with its facts.
@@ -47,7 +50,10 @@ pub fn call(rt: &HostRuntime, text: &[u8]) -> Refused {
 const OTHER_VERSION: u32 = 4;
 
 // 01's refusals by their numbers, 1 to 10.
-fn text_of(number: u32) -> &'static [u8] {
+#[tactic(auto, unfolding(crate::specs::Refusals::refusal_text))]
+fn text_of(number: u32) -> &'static [u8]
+    ensures { result.now ≡ refusal_text number }
+{
     match number {
         1 =>
             b": refusal 1: the file has more than 1073741824 bytes, the longest trace that is read\n",
@@ -65,20 +71,53 @@ fn text_of(number: u32) -> &'static [u8] {
     }
 }
 
-// One of 01's refusals.
-pub fn refusal(rt: &HostRuntime, path: &[u8], error: impl Refusal, f: Facts) -> Refused {
-    file(rt, path, text_of(error.number()), f)
+// What is said of a refusal: a text, and its facts.
+#[derive(Clone, Copy)]
+struct Reason {
+    text: &'static [u8],
+    facts: Facts,
 }
 
-// A trace does not open. What is said of it is its version, where that is another one, or else its size.
+impl Reason {
+    // What is said of one of 01's refusals.
+    fn of<E: Refusal>(error: E, f: Facts) -> Reason
+        ensures text { result.text.now ≡ refusal_text (E.number error) }
+        ensures facts { result.facts ≡ f }
+    {
+        Reason {
+            text: text_of(error.number()),
+            facts: f,
+        }
+    }
+
+    // What is said of a trace that does not open: its version, where that is another one, or else its size.
+    fn of_opening<E: Refusal>(error: E, s: &[u8]) -> Reason
+        ensures text { result.text.now ≡ refusal_text (E.number error) }
+        ensures facts { result.facts ≡ opening_facts (E.number error) s.now }
+    {
+        let number = error.number();
+        let fact = if number == OTHER_VERSION {
+            u64::from(layout::u32_at(s, 0))
+        } else {
+            s.len() as u64
+        };
+        Reason {
+            text: text_of(number),
+            facts: Facts::of(fact, 0, 0),
+        }
+    }
+}
+
+// One of 01's refusals.
+pub fn refusal(rt: &HostRuntime, path: &[u8], error: impl Refusal, f: Facts) -> Refused {
+    let reason = Reason::of(error, f);
+    file(rt, path, reason.text, reason.facts)
+}
+
+// A trace does not open.
 pub fn opening(rt: &HostRuntime, path: &[u8], error: impl Refusal, s: &[u8]) -> Refused {
-    let number = error.number();
-    let fact = if number == OTHER_VERSION {
-        u64::from(layout::u32_at(s, 0))
-    } else {
-        s.len() as u64
-    };
-    file(rt, path, text_of(number), Facts::of(fact, 0, 0))
+    let reason = Reason::of_opening(error, s);
+    file(rt, path, reason.text, reason.facts)
 }
 
 // The words of an error, without the number that std puts after the system's.
